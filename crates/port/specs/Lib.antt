@@ -1,0 +1,9 @@
+pub mod Reaction
+pub mod Events
+pub mod Tick
+pub mod Features
+pub mod Configuration
+pub mod Status
+pub mod Input
+pub mod Claims
+pub mod Cases

@@ -1,0 +1,752 @@
+// One downstream port of the hub, by value: its states, the line events, the 1 ms tick, the port features and the status bytes.
+ghost use mathlib.Core.Path.{_≡_};
+ghost use mathlib.Core.Bool.{false};
+ghost use mathlib.Core.List.{[], _∷_};
+ghost use Prim.Native.Nat.{_≤_};
+ghost use Rattle.port.specs.Reaction.{newPort, answered, ruled};
+ghost use Rattle.port.specs.Events.{
+  attach,
+  detach,
+  chirp,
+  wake,
+  portError,
+  overCurrentOn,
+  overCurrentOff,
+  lineEvent,
+};
+ghost use Rattle.port.specs.Tick.{ticked};
+ghost use Rattle.port.specs.Features.{
+  setPower,
+  setReset,
+  setSuspend,
+  clearPower,
+  clearEnable,
+  clearSuspend,
+  resetSpeed,
+  changeCleared,
+  featureSet,
+  featureCleared,
+};
+ghost use Rattle.port.specs.Configuration.{configured, unconfigured};
+ghost use Rattle.port.specs.Status.{
+  isLow,
+  isHigh,
+  portConnection,
+  portEnable,
+  portSuspend,
+  portReset,
+  portPower,
+  portLowSpeed,
+  portHighSpeed,
+  bit,
+  byteOf,
+  statusBytes,
+  hasChange,
+};
+ghost use Rattle.port.specs.Claims.{PortClaims};
+ghost use Rattle.port.specs.Cases.{CasesHold};
+
+// A port's number, counted from 1.
+pub struct PortNumber(pub u32);
+
+pub enum Speed {
+    Low,
+    Full,
+    High,
+}
+
+// A connected state has the speed; Resetting and Resuming have the ticks so far.
+pub enum PortState {
+    NotConfigured,
+    PoweredOff,
+    Disconnected,
+    Disabled(Speed),
+    Resetting(Speed, u8),
+    Enabled(Speed),
+    Suspended(Speed),
+    Resuming(Speed, u8),
+}
+
+pub enum ChangeBit {
+    Connection,
+    Enable,
+    Suspend,
+    OverCurrent,
+    Reset,
+}
+
+// C_PORT_CONNECTION, C_PORT_ENABLE, C_PORT_SUSPEND, C_PORT_OVER_CURRENT and C_PORT_RESET.
+pub struct Changes {
+    pub connection: bool,
+    pub enable: bool,
+    pub suspend: bool,
+    pub overcurrent: bool,
+    pub reset: bool,
+}
+
+// overcurrent is the over-current level.
+pub struct Port {
+    pub state: PortState,
+    pub overcurrent: bool,
+    pub changes: Changes,
+}
+
+pub enum LineEvent {
+    AttachLow,
+    AttachFull,
+    Detach,
+    Chirp,
+    Wake,
+    PortError,
+    OverCurrentOn,
+    OverCurrentOff,
+}
+
+pub enum SettableFeature {
+    Suspend,
+    Reset,
+    Power,
+}
+
+pub enum ClearableFeature {
+    Enable,
+    Suspend,
+    Power,
+    Change(ChangeBit),
+}
+
+pub enum EventAnswer {
+    Done,
+    NotInThisState,
+}
+
+pub struct Stepped {
+    pub port: Port,
+    pub answer: EventAnswer,
+}
+
+impl Port {
+    // The port of a new hub.
+    pub fn new() -> Port
+        ensures { λ r. ⌜ r ≡ newPort ⌝ }
+    {
+        let changes = Changes {
+            connection: false,
+            enable: false,
+            suspend: false,
+            overcurrent: false,
+            reset: false,
+        };
+        Port {
+            state: PortState::NotConfigured,
+            overcurrent: false,
+            changes,
+        }
+    }
+
+    pub fn line_event(self, event: LineEvent) -> Stepped
+        ensures { λ r. ⌜ answered r ≡ lineEvent self event ⌝ }
+    {
+        match event {
+            LineEvent::AttachLow => self.attach(Speed::Low),
+            LineEvent::AttachFull => self.attach(Speed::Full),
+            LineEvent::Detach => self.detach(),
+            LineEvent::Chirp => self.chirp(),
+            LineEvent::Wake => self.wake(),
+            LineEvent::PortError => self.port_error(),
+            LineEvent::OverCurrentOn => self.over_current_on(),
+            LineEvent::OverCurrentOff => self.over_current_off(),
+        }
+    }
+
+    // One millisecond.
+    pub fn tick(self) -> Port
+        ensures { λ r. ⌜ r ≡ ticked self ⌝ }
+    {
+        let state = self.state;
+        let mut changes = self.changes;
+        match state {
+            PortState::Resetting(speed, ticks) => if ticks < 14 {
+                Port {
+                    state: PortState::Resetting(speed, ticks + 1),
+                    overcurrent: self.overcurrent,
+                    changes,
+                }
+            } else {
+                changes.reset = true;
+                Port {
+                    state: PortState::Enabled(speed),
+                    overcurrent: self.overcurrent,
+                    changes,
+                }
+            },
+            PortState::Resuming(speed, ticks) => if ticks < 21 {
+                Port {
+                    state: PortState::Resuming(speed, ticks + 1),
+                    overcurrent: self.overcurrent,
+                    changes,
+                }
+            } else {
+                changes.suspend = true;
+                Port {
+                    state: PortState::Enabled(speed),
+                    overcurrent: self.overcurrent,
+                    changes,
+                }
+            },
+            _ => self,
+        }
+    }
+
+    pub fn set_feature(self, feature: SettableFeature) -> Port
+        ensures { λ r. ⌜ r ≡ featureSet self feature ⌝ }
+    {
+        match feature {
+            SettableFeature::Suspend => self.set_suspend(),
+            SettableFeature::Reset => self.set_reset(),
+            SettableFeature::Power => self.set_power(),
+        }
+    }
+
+    pub fn clear_feature(self, feature: ClearableFeature) -> Port
+        ensures { λ r. ⌜ r ≡ featureCleared self feature ⌝ }
+    {
+        match feature {
+            ClearableFeature::Enable => self.clear_enable(),
+            ClearableFeature::Suspend => self.clear_suspend(),
+            ClearableFeature::Power => self.clear_power(),
+            ClearableFeature::Change(bit) => self.clear_change(bit),
+        }
+    }
+
+    // SetConfiguration 1.
+    pub fn configure(self) -> Port
+        ensures { λ r. ⌜ r ≡ configured self ⌝ }
+    {
+        let changes = self.changes;
+        Port {
+            state: PortState::PoweredOff,
+            overcurrent: self.overcurrent,
+            changes,
+        }
+    }
+
+    // SetConfiguration 0.
+    pub fn unconfigure(self) -> Port
+        ensures { λ r. ⌜ r ≡ unconfigured self ⌝ }
+    {
+        let changes = self.changes;
+        Port {
+            state: PortState::NotConfigured,
+            overcurrent: false,
+            changes,
+        }
+    }
+
+    // The four bytes of GetPortStatus.
+    pub fn status(self) -> [u8; 4]
+        ensures { λ r. ⌜ r ≡ statusBytes self ⌝ }
+    {
+        let state = self.state;
+        let changes = self.changes;
+        let low = byte_of(
+            state.connection(),
+            state.enable(),
+            state.suspend(),
+            self.overcurrent,
+            state.reset(),
+        );
+        let high = byte_of(
+            state.power(),
+            state.low_speed(),
+            state.high_speed(),
+            false,
+            false,
+        );
+        let change = byte_of(
+            changes.connection,
+            changes.enable,
+            changes.suspend,
+            changes.overcurrent,
+            changes.reset,
+        );
+        [low, high, change, 0]
+    }
+
+    // Whether a change bit is set.
+    pub fn changed(self) -> bool
+        ensures { λ r. ⌜ r ≡ hasChange (self .changes) ⌝ }
+    {
+        if self.changes.connection {
+            return true;
+        }
+        if self.changes.enable {
+            return true;
+        }
+        if self.changes.suspend {
+            return true;
+        }
+        if self.changes.overcurrent {
+            return true;
+        }
+        self.changes.reset
+    }
+}
+
+// The line events.
+impl Port {
+    fn attach(self, speed: Speed) -> Stepped
+        ensures { λ r. ⌜ answered r ≡ ruled (attach speed) self ⌝ }
+    {
+        let state = self.state;
+        let mut changes = self.changes;
+        match state {
+            PortState::Disconnected => {
+                changes.connection = true;
+                done(PortState::Disabled(speed), self.overcurrent, changes)
+            }
+            _ => refused(self),
+        }
+    }
+
+    fn detach(self) -> Stepped
+        ensures { λ r. ⌜ answered r ≡ ruled detach self ⌝ }
+    {
+        let state = self.state;
+        let mut changes = self.changes;
+        match state {
+            PortState::Disabled(_) => {
+                changes.connection = true;
+                done(PortState::Disconnected, self.overcurrent, changes)
+            }
+            PortState::Enabled(_) => {
+                changes.connection = true;
+                changes.enable = true;
+                done(PortState::Disconnected, self.overcurrent, changes)
+            }
+            PortState::Suspended(_) => {
+                changes.connection = true;
+                changes.enable = true;
+                done(PortState::Disconnected, self.overcurrent, changes)
+            }
+            _ => refused(self),
+        }
+    }
+
+    fn chirp(self) -> Stepped
+        ensures { λ r. ⌜ answered r ≡ ruled chirp self ⌝ }
+    {
+        let state = self.state;
+        let changes = self.changes;
+        match state {
+            PortState::Resetting(speed, ticks) => match speed {
+                Speed::Full => done(
+                    PortState::Resetting(Speed::High, ticks),
+                    self.overcurrent,
+                    changes,
+                ),
+                Speed::Low => refused(self),
+                Speed::High => refused(self),
+            },
+            _ => refused(self),
+        }
+    }
+
+    fn wake(self) -> Stepped
+        ensures { λ r. ⌜ answered r ≡ ruled wake self ⌝ }
+    {
+        let state = self.state;
+        let changes = self.changes;
+        match state {
+            PortState::Suspended(speed) => done(
+                PortState::Resuming(speed, 0),
+                self.overcurrent,
+                changes,
+            ),
+            _ => refused(self),
+        }
+    }
+
+    fn port_error(self) -> Stepped
+        ensures { λ r. ⌜ answered r ≡ ruled portError self ⌝ }
+    {
+        let state = self.state;
+        let mut changes = self.changes;
+        match state {
+            PortState::Enabled(speed) => {
+                changes.enable = true;
+                done(PortState::Disabled(speed), self.overcurrent, changes)
+            }
+            _ => refused(self),
+        }
+    }
+
+    fn over_current_on(self) -> Stepped
+        ensures { λ r. ⌜ answered r ≡ ruled overCurrentOn self ⌝ }
+    {
+        let state = self.state;
+        let mut changes = self.changes;
+        match state {
+            PortState::NotConfigured => refused(self),
+            PortState::Enabled(_) | PortState::Suspended(_) | PortState::Resuming(_, _) => {
+                if self.overcurrent {
+                    done(state, self.overcurrent, changes)
+                } else {
+                    changes.overcurrent = true;
+                    changes.enable = true;
+                    done(PortState::PoweredOff, true, changes)
+                }
+            }
+            _ => {
+                if self.overcurrent {
+                    done(state, self.overcurrent, changes)
+                } else {
+                    changes.overcurrent = true;
+                    done(PortState::PoweredOff, true, changes)
+                }
+            }
+        }
+    }
+
+    fn over_current_off(self) -> Stepped
+        ensures { λ r. ⌜ answered r ≡ ruled overCurrentOff self ⌝ }
+    {
+        let state = self.state;
+        let mut changes = self.changes;
+        match state {
+            PortState::NotConfigured => refused(self),
+            _ => {
+                if self.overcurrent {
+                    changes.overcurrent = true;
+                    done(state, false, changes)
+                } else {
+                    done(state, self.overcurrent, changes)
+                }
+            }
+        }
+    }
+}
+
+// Answer 0: the next state, over-current level and change bits.
+fn done(state: PortState, level: bool, changes: Changes) -> Stepped
+    ensures { λ r. ⌜ answered r ≡ record { port = record { state = state; overcurrent = level; changes = changes }; number = 0 } ⌝ }
+{
+    Stepped {
+        port: Port {
+            state,
+            overcurrent: level,
+            changes,
+        },
+        answer: EventAnswer::Done,
+    }
+}
+
+// Answer 8: nothing changed.
+fn refused(port: Port) -> Stepped
+    ensures { λ r. ⌜ answered r ≡ record { port = port; number = 8 } ⌝ }
+{
+    Stepped {
+        port,
+        answer: EventAnswer::NotInThisState,
+    }
+}
+
+// The port features.
+impl Port {
+    fn set_power(self) -> Port
+        ensures { λ r. ⌜ r ≡ ruled setPower self .port ⌝ }
+    {
+        let state = self.state;
+        let changes = self.changes;
+        match state {
+            PortState::PoweredOff => {
+                if self.overcurrent {
+                    self
+                } else {
+                    Port {
+                        state: PortState::Disconnected,
+                        overcurrent: self.overcurrent,
+                        changes,
+                    }
+                }
+            }
+            _ => self,
+        }
+    }
+
+    fn set_reset(self) -> Port
+        ensures { λ r. ⌜ r ≡ ruled setReset self .port ⌝ }
+    {
+        let state = self.state;
+        let changes = self.changes;
+        match state {
+            PortState::Disabled(speed)
+            | PortState::Enabled(speed)
+            | PortState::Suspended(speed)
+            | PortState::Resuming(speed, _) => {
+                let slower = speed.after_reset();
+                Port {
+                    state: PortState::Resetting(slower, 0),
+                    overcurrent: self.overcurrent,
+                    changes,
+                }
+            }
+            PortState::Resetting(speed, ticks) => Port {
+                state: PortState::Resetting(speed, ticks),
+                overcurrent: self.overcurrent,
+                changes,
+            },
+            _ => self,
+        }
+    }
+
+    fn set_suspend(self) -> Port
+        ensures { λ r. ⌜ r ≡ ruled setSuspend self .port ⌝ }
+    {
+        let state = self.state;
+        let changes = self.changes;
+        match state {
+            PortState::Enabled(speed) => Port {
+                state: PortState::Suspended(speed),
+                overcurrent: self.overcurrent,
+                changes,
+            },
+            _ => self,
+        }
+    }
+
+    fn clear_enable(self) -> Port
+        ensures { λ r. ⌜ r ≡ ruled clearEnable self .port ⌝ }
+    {
+        let state = self.state;
+        let changes = self.changes;
+        match state {
+            PortState::Resetting(speed, _)
+            | PortState::Enabled(speed)
+            | PortState::Suspended(speed)
+            | PortState::Resuming(speed, _) => Port {
+                state: PortState::Disabled(speed),
+                overcurrent: self.overcurrent,
+                changes,
+            },
+            _ => self,
+        }
+    }
+
+    fn clear_suspend(self) -> Port
+        ensures { λ r. ⌜ r ≡ ruled clearSuspend self .port ⌝ }
+    {
+        let state = self.state;
+        let changes = self.changes;
+        match state {
+            PortState::Suspended(speed) => Port {
+                state: PortState::Resuming(speed, 0),
+                overcurrent: self.overcurrent,
+                changes,
+            },
+            _ => self,
+        }
+    }
+
+    fn clear_power(self) -> Port
+        ensures { λ r. ⌜ r ≡ ruled clearPower self .port ⌝ }
+    {
+        let kept = self.changes;
+        Port {
+            state: PortState::PoweredOff,
+            overcurrent: self.overcurrent,
+            changes: kept,
+        }
+    }
+
+    fn clear_change(mut self, bit: ChangeBit) -> Port
+        ensures { λ r. ⌜ r ≡ changeCleared self bit ⌝ }
+    {
+        match bit {
+            ChangeBit::Connection => {
+                self.changes.connection = false;
+                self
+            }
+            ChangeBit::Enable => {
+                self.changes.enable = false;
+                self
+            }
+            ChangeBit::Suspend => {
+                self.changes.suspend = false;
+                self
+            }
+            ChangeBit::OverCurrent => {
+                self.changes.overcurrent = false;
+                self
+            }
+            ChangeBit::Reset => {
+                self.changes.reset = false;
+                self
+            }
+        }
+    }
+}
+
+impl Speed {
+    // Set PORT_RESET makes a high-speed port full speed.
+    fn after_reset(self) -> Speed
+        ensures { λ r. ⌜ r ≡ resetSpeed self ⌝ }
+    {
+        match self {
+            Speed::Low => Speed::Low,
+            Speed::Full => Speed::Full,
+            Speed::High => Speed::Full,
+        }
+    }
+
+    fn is_low(self) -> bool
+        ensures { λ r. ⌜ r ≡ isLow self ⌝ }
+    {
+        match self {
+            Speed::Low => true,
+            Speed::Full => false,
+            Speed::High => false,
+        }
+    }
+
+    fn is_high(self) -> bool
+        ensures { λ r. ⌜ r ≡ isHigh self ⌝ }
+    {
+        match self {
+            Speed::Low => false,
+            Speed::Full => false,
+            Speed::High => true,
+        }
+    }
+}
+
+// The status bits that the state decides.
+impl PortState {
+    fn connection(self) -> bool
+        ensures { λ r. ⌜ r ≡ portConnection self ⌝ }
+    {
+        match self {
+            PortState::NotConfigured => false,
+            PortState::PoweredOff => false,
+            PortState::Disconnected => false,
+            PortState::Disabled(_) => true,
+            PortState::Resetting(_, _) => true,
+            PortState::Enabled(_) => true,
+            PortState::Suspended(_) => true,
+            PortState::Resuming(_, _) => true,
+        }
+    }
+
+    fn enable(self) -> bool
+        ensures { λ r. ⌜ r ≡ portEnable self ⌝ }
+    {
+        match self {
+            PortState::NotConfigured => false,
+            PortState::PoweredOff => false,
+            PortState::Disconnected => false,
+            PortState::Disabled(_) => false,
+            PortState::Resetting(_, _) => false,
+            PortState::Enabled(_) => true,
+            PortState::Suspended(_) => true,
+            PortState::Resuming(_, _) => true,
+        }
+    }
+
+    fn suspend(self) -> bool
+        ensures { λ r. ⌜ r ≡ portSuspend self ⌝ }
+    {
+        match self {
+            PortState::NotConfigured => false,
+            PortState::PoweredOff => false,
+            PortState::Disconnected => false,
+            PortState::Disabled(_) => false,
+            PortState::Resetting(_, _) => false,
+            PortState::Enabled(_) => false,
+            PortState::Suspended(_) => true,
+            PortState::Resuming(_, _) => true,
+        }
+    }
+
+    fn reset(self) -> bool
+        ensures { λ r. ⌜ r ≡ portReset self ⌝ }
+    {
+        match self {
+            PortState::NotConfigured => false,
+            PortState::PoweredOff => false,
+            PortState::Disconnected => false,
+            PortState::Disabled(_) => false,
+            PortState::Resetting(_, _) => true,
+            PortState::Enabled(_) => false,
+            PortState::Suspended(_) => false,
+            PortState::Resuming(_, _) => false,
+        }
+    }
+
+    fn power(self) -> bool
+        ensures { λ r. ⌜ r ≡ portPower self ⌝ }
+    {
+        match self {
+            PortState::NotConfigured => false,
+            PortState::PoweredOff => false,
+            PortState::Disconnected => true,
+            PortState::Disabled(_) => true,
+            PortState::Resetting(_, _) => true,
+            PortState::Enabled(_) => true,
+            PortState::Suspended(_) => true,
+            PortState::Resuming(_, _) => true,
+        }
+    }
+
+    fn low_speed(self) -> bool
+        ensures { λ r. ⌜ r ≡ portLowSpeed self ⌝ }
+    {
+        match self {
+            PortState::NotConfigured => false,
+            PortState::PoweredOff => false,
+            PortState::Disconnected => false,
+            PortState::Disabled(speed) => speed.is_low(),
+            PortState::Resetting(speed, _) => speed.is_low(),
+            PortState::Enabled(speed) => speed.is_low(),
+            PortState::Suspended(speed) => speed.is_low(),
+            PortState::Resuming(speed, _) => speed.is_low(),
+        }
+    }
+
+    fn high_speed(self) -> bool
+        ensures { λ r. ⌜ r ≡ portHighSpeed self ⌝ }
+    {
+        match self {
+            PortState::NotConfigured => false,
+            PortState::PoweredOff => false,
+            PortState::Disconnected => false,
+            PortState::Disabled(speed) => speed.is_high(),
+            PortState::Resetting(speed, _) => speed.is_high(),
+            PortState::Enabled(speed) => speed.is_high(),
+            PortState::Suspended(speed) => speed.is_high(),
+            PortState::Resuming(speed, _) => speed.is_high(),
+        }
+    }
+}
+
+fn bit(b: bool) -> u8
+    ensures { λ r. ⌜ (r ≡ bit b) × (r ≤ 1) ⌝ }
+{
+    if b { 1 } else { 0 }
+}
+
+// The byte with these bits, bit 0 first; bits 5 to 7 are zero.
+fn byte_of(b0: bool, b1: bool, b2: bool, b3: bool, b4: bool) -> u8
+    ensures { λ r. ⌜ r ≡ byteOf (b0 ∷ b1 ∷ b2 ∷ b3 ∷ b4 ∷ false ∷ false ∷ false ∷ []) ⌝ }
+{
+    bit(b0) + 2 * bit(b1) + 4 * bit(b2) + 8 * bit(b3) + 16 * bit(b4)
+}
+
+// What holds of every port; the function does nothing.
+fn port_claims()
+    ensures { λ _. ⌜ PortClaims ⌝ }
+{}
+
+// Bench cases P3 to P10 of one port; the function does nothing.
+fn port_cases()
+    ensures { λ _. ⌜ CasesHold ⌝ }
+{}
