@@ -1,0 +1,50 @@
+-- One buffer. A reader must believe: it is empty, pending, ready or old; all but empty hold a key.
+use Prim.Native.Nat.{ℕ}
+use mathlib.Core.Bool.{Bool, true, false, cond}
+use Rattle.payload.specs.Payload.{noPayload}
+use Rattle.buffer.specs.declared.Key.{Key}
+use Rattle.buffer.specs.declared.StartSplit.{StartSplit}
+use Rattle.buffer.specs.declared.Slot.{Slot}
+use Rattle.buffer.specs.declared.Slot.the-variants.{Empty, Pending, Ready, Old}
+use Rattle.buffer.specs.declared.Buffer.{Buffer}
+use Rattle.buffer.specs.declared.Standing.{Standing}
+use Rattle.buffer.specs.declared.Standing.the-variants.{Busy, Free, Holds, Reusable}
+use Rattle.buffer.specs.Key.{keyOf, sameKey}
+
+-- an empty buffer
+abbrev pub vacant : Buffer
+vacant = record { slot = Empty; payload = noPayload }
+
+abbrev pub isPending : Slot → Bool
+isPending Empty = false
+isPending (Pending s p) = true
+isPending (Ready s r) = false
+isPending (Old s r) = false
+
+-- pending or ready
+abbrev pub isActive : Slot → Bool
+isActive Empty = false
+isActive (Pending s p) = true
+isActive (Ready s r) = true
+isActive (Old s r) = false
+
+-- empty or old
+abbrev pub isFree : Slot → Bool
+isFree Empty = true
+isFree (Pending s p) = false
+isFree (Ready s r) = false
+isFree (Old s r) = true
+
+-- it holds the key k
+abbrev pub holds : Key → Slot → Bool
+holds k Empty = false
+holds k (Pending s p) = sameKey (keyOf s) k
+holds k (Ready s r) = sameKey (keyOf s) k
+holds k (Old s r) = sameKey (keyOf s) k
+
+-- how it stands to the key k, for a search that looks at it once
+abbrev pub standing : Key → Slot → Standing
+standing k Empty = Free
+standing k (Pending s p) = cond (sameKey (keyOf s) k) Holds Busy
+standing k (Ready s r) = cond (sameKey (keyOf s) k) Holds Busy
+standing k (Old s r) = cond (sameKey (keyOf s) k) Reusable Free

@@ -1,0 +1,35 @@
+-- Keys. A reader must believe: a key is address, endpoint and direction, and the direction follows from the PID.
+use mathlib.Core.Path.{_≡_}
+use mathlib.Core.Logic.{_↔_}
+use mathlib.Core.Bool.{Bool, true, false, _&&_}
+use lib.Dec.{eqb}
+use Rattle.buffer.specs.declared.Direction.{Direction}
+use Rattle.buffer.specs.declared.Direction.the-variants as direction
+use Rattle.buffer.specs.declared.Key.{Key}
+use Rattle.buffer.specs.declared.Pid.{Pid}
+use Rattle.buffer.specs.declared.Pid.the-variants as pid
+use Rattle.buffer.specs.declared.StartSplit.{StartSplit}
+
+-- The direction is IN for PID IN and OUT for the other two.
+abbrev pub directionOf : Pid → Direction
+directionOf pid.Out = direction.Out
+directionOf pid.In = direction.In
+directionOf pid.Setup = direction.Out
+
+-- A key is address, endpoint, direction.
+abbrev pub keyOf : StartSplit → Key
+keyOf s = record { address = s .address; endpoint = s .endpoint; direction = directionOf (s .pid) }
+
+abbrev pub sameDirection : Direction → Direction → Bool
+sameDirection direction.Out direction.Out = true
+sameDirection direction.Out direction.In = false
+sameDirection direction.In direction.Out = false
+sameDirection direction.In direction.In = true
+
+-- the one test of keys
+unfoldable pub sameKey : Key → Key → Bool
+sameKey a b = eqb (a .address .0) (b .address .0) && (eqb (a .endpoint) (b .endpoint) && sameDirection (a .direction) (b .direction))
+
+-- it holds exactly if the keys are equal
+abbrev pub KeyTest : Type 0
+KeyTest = (a b : Key) → (sameKey a b ≡ true) ↔ (a ≡ b)

@@ -1,0 +1,4 @@
+pub mod Key
+pub mod Lengths
+pub mod Buffer
+pub mod Valid

@@ -1,0 +1,9 @@
+pub mod Lists
+pub mod Search
+pub mod StartSplit
+pub mod At
+pub mod Finding
+pub mod Ranks
+pub mod Kept
+pub mod Calls
+pub mod Claimed

@@ -1,0 +1,12 @@
+pub mod Translator
+pub mod Search
+pub mod Order
+pub mod StartSplit
+pub mod CompleteSplit
+pub mod Launch
+pub mod Deliver
+pub mod Clear
+pub mod Answers
+pub mod Valid
+pub mod Claims
+pub mod Cases

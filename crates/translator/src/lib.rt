@@ -1,0 +1,607 @@
+// The transaction translator by value: its buffers, the search of a start-split, the order of acceptance and the low side.
+ghost use mathlib.Core.Path.{_≡_};
+ghost use Prim.Native.Nat.{_+_, _≤_};
+ghost use lib.ListN.{take};
+ghost use Rattle.translator.specs.Translator.{newTranslator, at, withBuffer, withLow, emptied};
+ghost use Rattle.translator.specs.Search.{looked, chosen, find};
+ghost use Rattle.buffer.specs.Buffer.{holds, isPending};
+ghost use Rattle.translator.specs.Order.{bit, isBefore, waiting, before, rankedIn, ranked, sooner, earliest};
+ghost use Rattle.translator.specs.StartSplit.{stored, startSplit};
+ghost use Rattle.translator.specs.CompleteSplit.{given, completed, completeSplit};
+ghost use Rattle.translator.specs.Launch.{unlaunched, launched, launch};
+ghost use Rattle.translator.specs.Deliver.{undelivered, delivered, deliver};
+ghost use Rattle.translator.specs.Clear.{lowWithout, clearBuffer};
+ghost use Rattle.translator.specs.Claims.{TranslatorClaims};
+ghost use Rattle.translator.specs.Cases.{CasesHold};
+use buffer::Buffer;
+use buffer::BufferNumber;
+use buffer::DeviceResult;
+use buffer::Key;
+use buffer::Slot;
+use buffer::Standing;
+use buffer::StartSplit;
+use payload::Payload;
+
+// The full- and low-speed side: one transaction at a time.
+pub enum LowSide {
+    Idle,
+    Running(BufferNumber),
+    // its buffer was cleared; the next result is thrown away
+    Abandoned,
+}
+
+// The first `count` buffers are in use; the others are empty at all times.
+pub struct Translator {
+    pub buffers: [Buffer; 4],
+    pub count: u8,
+    pub low: LowSide,
+}
+
+// Where a search ended.
+pub enum Found {
+    Nowhere,
+    At(BufferNumber),
+}
+
+// What a start-split does with which buffer.
+pub enum Choice {
+    NoRoom,
+    Held(BufferNumber),
+    Reused(BufferNumber),
+    Took(BufferNumber),
+}
+
+// The pending buffer accepted first, with its place.
+pub enum Earliest {
+    NonePending,
+    Stored(BufferNumber, u8),
+}
+
+pub enum StartAnswer {
+    // a number or length outside the rules
+    Outside,
+    Chosen(Choice),
+}
+
+pub struct Started {
+    pub next: Translator,
+    pub answer: StartAnswer,
+}
+
+pub enum CompleteAnswer {
+    NoMatch,
+    NotYet,
+    Gives(DeviceResult),
+}
+
+pub struct Completed {
+    pub next: Translator,
+    pub answer: CompleteAnswer,
+    pub payload: Payload,
+}
+
+pub enum LaunchAnswer {
+    NothingPending,
+    Occupied,
+    Launches(StartSplit),
+}
+
+pub struct Launched {
+    pub next: Translator,
+    pub answer: LaunchAnswer,
+    pub payload: Payload,
+}
+
+pub enum DeliverAnswer {
+    // a number or length outside the rules
+    Outside,
+    NotInThisState,
+    Done,
+}
+
+pub struct Delivered {
+    pub next: Translator,
+    pub answer: DeliverAnswer,
+}
+
+// ---- the search of a start-split
+
+// What the search carries on from one buffer to the next: numbers and flags alone.
+fn look(sofar: Choice, standing: Standing, n: BufferNumber) -> Choice
+    ensures { λ r. ⌜ r ≡ looked sofar standing n ⌝ }
+{
+    match sofar {
+        Choice::NoRoom => match standing {
+            Standing::Busy => Choice::NoRoom,
+            Standing::Free => Choice::Took(n),
+            Standing::Holds => Choice::Held(n),
+            Standing::Reusable => Choice::Reused(n),
+        },
+        Choice::Held(m) => Choice::Held(m),
+        Choice::Reused(m) => Choice::Reused(m),
+        Choice::Took(m) => match standing {
+            Standing::Busy => Choice::Took(m),
+            Standing::Free => Choice::Took(m),
+            Standing::Holds => Choice::Held(n),
+            Standing::Reusable => Choice::Reused(n),
+        },
+    }
+}
+
+impl Translator {
+    // One pass over the buffers, in rising number.
+    fn choose(self, key: Key) -> Choice
+        ensures { λ r. ⌜ r ≡ chosen key (take (self .count) (self .buffers)) ⌝ }
+    {
+        let count = self.count as usize;
+        let mut sofar = Choice::NoRoom;
+        let mut i: usize = 0;
+        while i < 4 {
+            if count <= i {
+                return sofar;
+            }
+            let b = self.buffers[i];
+            let slot = b.slot;
+            sofar = look(sofar, slot.standing(key), BufferNumber(i as u8));
+            i += 1;
+        }
+        sofar
+    }
+
+    // The buffer that holds a key.
+    fn holder(self, key: Key) -> Found
+        ensures { λ r. ⌜ r ≡ find (holds key) (take (self .count) (self .buffers)) ⌝ }
+    {
+        match self.choose(key) {
+            Choice::NoRoom => Found::Nowhere,
+            Choice::Held(n) => Found::At(n),
+            Choice::Reused(n) => Found::At(n),
+            Choice::Took(_) => Found::Nowhere,
+        }
+    }
+}
+
+// ---- the order of acceptance
+
+fn bit_of(b: bool) -> u8
+    ensures { λ r. ⌜ r ≡ bit b ⌝ }
+    ensures small { λ r. ⌜ r ≤ 1 ⌝ }
+{
+    if b { 1 } else { 0 }
+}
+
+fn how_many(a: bool, b: bool, c: bool, d: bool) -> u8
+    ensures { λ r. ⌜ r ≡ bit a + (bit b + (bit c + bit d)) ⌝ }
+{
+    bit_of(a) + (bit_of(b) + (bit_of(c) + bit_of(d)))
+}
+
+fn is_waiting(b: Buffer) -> bool
+    ensures { λ r. ⌜ r ≡ isPending (b .slot) ⌝ }
+{
+    let slot = b.slot;
+    match slot {
+        Slot::Empty => false,
+        Slot::Pending(_, _) => true,
+        Slot::Ready(_, _) => false,
+        Slot::Old(_, _) => false,
+    }
+}
+
+fn is_before(b: Buffer, place: u8) -> bool
+    ensures { λ r. ⌜ r ≡ isBefore place (b .slot) ⌝ }
+{
+    let slot = b.slot;
+    match slot {
+        Slot::Empty => false,
+        Slot::Pending(_, other) => other < place,
+        Slot::Ready(_, _) => false,
+        Slot::Old(_, _) => false,
+    }
+}
+
+fn count_waiting(bs: [Buffer; 4]) -> u8
+    ensures { λ r. ⌜ r ≡ waiting bs ⌝ }
+{
+    how_many(
+        is_waiting(bs[0]),
+        is_waiting(bs[1]),
+        is_waiting(bs[2]),
+        is_waiting(bs[3]),
+    )
+}
+
+fn rank_of(bs: [Buffer; 4], place: u8) -> u8
+    ensures { λ r. ⌜ r ≡ before place bs ⌝ }
+{
+    how_many(
+        is_before(bs[0], place),
+        is_before(bs[1], place),
+        is_before(bs[2], place),
+        is_before(bs[3], place),
+    )
+}
+
+// The buffer with its rank among all as its place, if it is pending.
+fn rerank(bs: [Buffer; 4], b: Buffer) -> Buffer
+    ensures { λ r. ⌜ r ≡ rankedIn bs b ⌝ }
+{
+    let slot = b.slot;
+    let payload = b.payload;
+    match slot {
+        Slot::Empty => b,
+        Slot::Pending(split, place) => Buffer {
+            slot: Slot::Pending(split, rank_of(bs, place)),
+            payload,
+        },
+        Slot::Ready(_, _) => b,
+        Slot::Old(_, _) => b,
+    }
+}
+
+fn renumber(bs: [Buffer; 4]) -> [Buffer; 4]
+    ensures { λ r. ⌜ r ≡ ranked bs ⌝ }
+{
+    let b0 = rerank(bs, bs[0]);
+    let b1 = rerank(bs, bs[1]);
+    let b2 = rerank(bs, bs[2]);
+    let b3 = rerank(bs, bs[3]);
+    [b0, b1, b2, b3]
+}
+
+fn nearer(sofar: Earliest, slot: Slot, n: BufferNumber) -> Earliest
+    ensures { λ r. ⌜ r ≡ sooner sofar slot n ⌝ }
+{
+    match slot {
+        Slot::Empty => sofar,
+        Slot::Pending(_, place) => match sofar {
+            Earliest::NonePending => Earliest::Stored(n, place),
+            Earliest::Stored(m, other) => {
+                if place < other {
+                    Earliest::Stored(n, place)
+                } else {
+                    Earliest::Stored(m, other)
+                }
+            }
+        },
+        Slot::Ready(_, _) => sofar,
+        Slot::Old(_, _) => sofar,
+    }
+}
+
+impl Translator {
+    // The pending buffer with the lowest place.
+    fn earliest(self) -> Earliest
+        ensures { λ r. ⌜ r ≡ earliest (take (self .count) (self .buffers)) ⌝ }
+    {
+        let count = self.count as usize;
+        let mut sofar = Earliest::NonePending;
+        let mut i: usize = 0;
+        while i < 4 {
+            if count <= i {
+                return sofar;
+            }
+            let b = self.buffers[i];
+            let slot = b.slot;
+            sofar = nearer(sofar, slot, BufferNumber(i as u8));
+            i += 1;
+        }
+        sofar
+    }
+}
+
+// ---- the state
+
+impl Translator {
+    // Empty buffers, an idle low side.
+    pub fn new(count: u8) -> Translator
+        ensures { λ r. ⌜ r ≡ newTranslator count ⌝ }
+    {
+        Translator {
+            buffers: [Buffer::vacant(); 4],
+            count,
+            low: LowSide::Idle,
+        }
+    }
+
+    // Every buffer empty, the low side stopped.
+    pub fn empty(self) -> Translator
+        ensures { λ r. ⌜ r ≡ emptied self ⌝ }
+    {
+        Translator::new(self.count)
+    }
+
+    // Buffer n; past the last one, an empty one.
+    pub fn buffer(self, n: BufferNumber) -> Buffer
+        ensures { λ r. ⌜ r ≡ at (self .buffers) (n .0) ⌝ }
+    {
+        let i = n.0 as usize;
+        if i < 4 {
+            return self.buffers[i];
+        }
+        Buffer::vacant()
+    }
+
+    fn with_buffer(self, n: BufferNumber, b: Buffer) -> Translator
+        ensures { λ r. ⌜ r ≡ withBuffer self n b ⌝ }
+    {
+        let mut next = self;
+        let i = n.0 as usize;
+        if i < 4 {
+            next.buffers[i] = b;
+            return next;
+        }
+        next
+    }
+
+    fn with_low(self, low: LowSide) -> Translator
+        ensures { λ r. ⌜ r ≡ withLow self low ⌝ }
+    {
+        let buffers = self.buffers;
+        Translator {
+            buffers,
+            count: self.count,
+            low,
+        }
+    }
+}
+
+// ---- the calls
+
+impl Translator {
+    // The start-split in buffer n, last in the order of acceptance.
+    fn store(self, n: BufferNumber, split: StartSplit, payload: &[u8]) -> Translator
+        ensures { λ r. ⌜ r ≡ stored self n split (now (payload .entry)) ⌝ }
+    {
+        let old = self.buffers;
+        let low = self.low;
+        let place = count_waiting(old);
+        let b = Buffer {
+            slot: Slot::Pending(split, place),
+            payload: Payload::of(payload),
+        };
+        let buffers = renumber(old);
+        let ranks = Translator {
+            buffers,
+            count: self.count,
+            low,
+        };
+        ranks.with_buffer(n, b)
+    }
+
+    pub fn start_split(self, split: StartSplit, payload: &[u8]) -> Started
+        ensures { λ r. ⌜ r ≡ startSplit self split (now (payload .entry)) ⌝ }
+    {
+        if split.fits(payload.len()) {
+            let choice = self.choose(split.key());
+            match choice {
+                Choice::NoRoom => Started {
+                    next: self,
+                    answer: StartAnswer::Chosen(Choice::NoRoom),
+                },
+                Choice::Held(n) => Started {
+                    next: self,
+                    answer: StartAnswer::Chosen(Choice::Held(n)),
+                },
+                Choice::Reused(n) => Started {
+                    next: self.store(n, split, payload),
+                    answer: StartAnswer::Chosen(Choice::Reused(n)),
+                },
+                Choice::Took(n) => Started {
+                    next: self.store(n, split, payload),
+                    answer: StartAnswer::Chosen(Choice::Took(n)),
+                },
+            }
+        } else {
+            Started {
+                next: self,
+                answer: StartAnswer::Outside,
+            }
+        }
+    }
+
+    // What a result gives: a data result the payload, a handshake none.
+    fn complete_at(self, n: BufferNumber) -> Completed
+        ensures { λ r. ⌜ r ≡ completed self n (at (self .buffers) (n .0) .payload) (at (self .buffers) (n .0) .slot) ⌝ }
+    {
+        let b = self.buffer(n);
+        let slot = b.slot;
+        let payload = b.payload;
+        match slot {
+            Slot::Empty => Completed {
+                next: self,
+                answer: CompleteAnswer::NoMatch,
+                payload: Payload::none(),
+            },
+            Slot::Pending(_, _) => Completed {
+                next: self,
+                answer: CompleteAnswer::NotYet,
+                payload: Payload::none(),
+            },
+            Slot::Ready(split, result) => Completed {
+                next: self.with_buffer(
+                    n,
+                    Buffer {
+                        slot: Slot::Old(split, result),
+                        payload,
+                    },
+                ),
+                answer: CompleteAnswer::Gives(result),
+                payload: give(result, payload),
+            },
+            Slot::Old(_, result) => Completed {
+                next: self,
+                answer: CompleteAnswer::Gives(result),
+                payload: give(result, payload),
+            },
+        }
+    }
+
+    pub fn complete_split(self, key: Key) -> Completed
+        ensures { λ r. ⌜ r ≡ completeSplit self key ⌝ }
+    {
+        match self.holder(key) {
+            Found::Nowhere => Completed {
+                next: self,
+                answer: CompleteAnswer::NoMatch,
+                payload: Payload::none(),
+            },
+            Found::At(n) => self.complete_at(n),
+        }
+    }
+
+    fn launch_at(self, n: BufferNumber) -> Launched
+        ensures { λ r. ⌜ r ≡ launched self n (at (self .buffers) (n .0) .payload) (at (self .buffers) (n .0) .slot) ⌝ }
+    {
+        let b = self.buffer(n);
+        let slot = b.slot;
+        let payload = b.payload;
+        match slot {
+            Slot::Empty => no_launch(self, LaunchAnswer::NothingPending),
+            Slot::Pending(split, _) => Launched {
+                next: self.with_low(LowSide::Running(n)),
+                answer: LaunchAnswer::Launches(split),
+                payload,
+            },
+            Slot::Ready(_, _) => no_launch(self, LaunchAnswer::NothingPending),
+            Slot::Old(_, _) => no_launch(self, LaunchAnswer::NothingPending),
+        }
+    }
+
+    pub fn launch(self) -> Launched
+        ensures { λ r. ⌜ r ≡ launch self ⌝ }
+    {
+        let low = self.low;
+        match low {
+            LowSide::Idle => match self.earliest() {
+                Earliest::NonePending => no_launch(self, LaunchAnswer::NothingPending),
+                Earliest::Stored(n, _) => self.launch_at(n),
+            },
+            LowSide::Running(_) => no_launch(self, LaunchAnswer::Occupied),
+            LowSide::Abandoned => no_launch(self, LaunchAnswer::Occupied),
+        }
+    }
+
+    fn deliver_to(self, n: BufferNumber, result: DeviceResult, payload: &[u8]) -> Delivered
+        ensures { λ r. ⌜ r ≡ delivered self result (now (payload .entry)) n (at (self .buffers) (n .0) .slot) ⌝ }
+    {
+        let b = self.buffer(n);
+        let slot = b.slot;
+        match slot {
+            Slot::Empty => not_delivered(self),
+            Slot::Pending(split, _) => {
+                let pid = split.pid;
+                if result.suits(pid) {
+                    let ready = Buffer {
+                        slot: Slot::Ready(split, result),
+                        payload: Payload::of(payload),
+                    };
+                    let next = self.with_buffer(n, ready);
+                    Delivered {
+                        next: next.with_low(LowSide::Idle),
+                        answer: DeliverAnswer::Done,
+                    }
+                } else {
+                    not_delivered(self)
+                }
+            }
+            Slot::Ready(_, _) => not_delivered(self),
+            Slot::Old(_, _) => not_delivered(self),
+        }
+    }
+
+    pub fn deliver(self, result: DeviceResult, payload: &[u8]) -> Delivered
+        ensures { λ r. ⌜ r ≡ deliver self result (now (payload .entry)) ⌝ }
+    {
+        let low = self.low;
+        if result.carries(payload.len()) {
+            match low {
+                LowSide::Idle => not_delivered(self),
+                LowSide::Running(n) => self.deliver_to(n, result, payload),
+                LowSide::Abandoned => Delivered {
+                    next: self.with_low(LowSide::Idle),
+                    answer: DeliverAnswer::Done,
+                },
+            }
+        } else {
+            Delivered {
+                next: self,
+                answer: DeliverAnswer::Outside,
+            }
+        }
+    }
+
+    // ClearTTBuffer.
+    pub fn clear_buffer(self, key: Key) -> Translator
+        ensures { λ r. ⌜ r ≡ clearBuffer self key ⌝ }
+    {
+        let low = self.low;
+        match self.holder(key) {
+            Found::Nowhere => self,
+            Found::At(n) => {
+                let next = self.with_buffer(n, Buffer::vacant());
+                next.with_low(low.without(n))
+            }
+        }
+    }
+}
+
+// What comes with a result: data its payload, a handshake none.
+fn give(result: DeviceResult, payload: Payload) -> Payload
+    ensures { λ r. ⌜ r ≡ given result payload ⌝ }
+{
+    if result.is_data() {
+        payload
+    } else {
+        Payload::none()
+    }
+}
+
+fn no_launch(t: Translator, answer: LaunchAnswer) -> Launched
+    ensures { λ r. ⌜ r ≡ unlaunched t answer ⌝ }
+{
+    Launched {
+        next: t,
+        answer,
+        payload: Payload::none(),
+    }
+}
+
+fn not_delivered(t: Translator) -> Delivered
+    ensures { λ r. ⌜ r ≡ undelivered t DeliverAnswer.NotInThisState ⌝ }
+{
+    Delivered {
+        next: t,
+        answer: DeliverAnswer::NotInThisState,
+    }
+}
+
+impl LowSide {
+    // The low side once buffer n is emptied.
+    fn without(self, n: BufferNumber) -> LowSide
+        ensures { λ r. ⌜ r ≡ lowWithout n self ⌝ }
+    {
+        match self {
+            LowSide::Idle => LowSide::Idle,
+            LowSide::Running(m) => {
+                if m.0 == n.0 {
+                    LowSide::Abandoned
+                } else {
+                    LowSide::Running(m)
+                }
+            }
+            LowSide::Abandoned => LowSide::Abandoned,
+        }
+    }
+}
+
+// ---- the claims, pinned
+
+fn translator_claims()
+    ensures { λ _. ⌜ TranslatorClaims ⌝ }
+{}
+
+// P11 to P13.
+fn translator_cases()
+    ensures { λ _. ⌜ CasesHold ⌝ }
+{}
