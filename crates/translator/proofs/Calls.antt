@@ -210,7 +210,7 @@ pub record Gave (t : Translator) (s : StartSplit) (o : Launched) : Type 0 where
   pub place : ℕ
   pub pending : at (t .buffers) (number .0) .slot ≡ Pending s place
   pub least : (j q : ℕ) → atPlace q (at (t .buffers) j .slot) ≡ true → place ≤ q
-  pub runs : o .next .low ≡ Running number
+  pub next : o .next ≡ record { buffers = t .buffers; count = t .count; low = Running number }
   pub payload : o .payload ≡ at (t .buffers) (number .0) .payload
 
 abbrev pub LaunchedAs : Translator → LaunchAnswer → Launched → Type 0
@@ -258,7 +258,7 @@ module _ (t : Translator) (v : ValidTranslator t) where
             least = λ j r h.
                 let u : j < t .count = in-use t v (atPlace r) refl j h in
                 f .least j r (subst (λ (m : ℕ). j < m) (sym long) u) (ap (λ (b : Buffer). atPlace r (b .slot)) (same-at j u) ∙ h);
-            runs = refl;
+            next = refl;
             payload = refl;
           }
 
@@ -280,7 +280,7 @@ launches-earliest =
     record {
       gives = λ t s v e.
           let g : Gave t s (launch t) = subst (λ a. LaunchedAs t a (launch t)) e (launched-as t v) in
-          record { number = g .number; place = g .place; pending = g .pending; least = g .least; runs = g .runs; payload = g .payload };
+          record { number = g .number; place = g .place; pending = g .pending; least = g .least; runs = ap (λ (x : Translator). x .low) (g .next); payload = g .payload };
       nothing = λ t v e. subst (λ a. LaunchedAs t a (launch t)) e (launched-as t v);
     }
 

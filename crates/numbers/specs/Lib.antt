@@ -1,0 +1,4 @@
+pub mod Written
+pub mod Named
+pub mod Split
+pub mod Claims

@@ -1,0 +1,4 @@
+pub mod Ports
+pub mod Sweep
+pub mod Bitmap
+pub mod Claims

@@ -1,0 +1,5 @@
+pub mod KindNamed
+pub mod Ways
+pub mod Written
+pub mod Exact
+pub mod Claimed
