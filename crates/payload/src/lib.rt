@@ -1,6 +1,7 @@
 // Payloads of at most 64 bytes, by value, and their way into a reply space.
 ghost use mathlib.Core.Path.{_≡_};
 ghost use Prim.Native.Nat.{min};
+ghost use lib.ListN.{length};
 ghost use Rattle.payload.specs.Payload.{noPayload, payloadOf, content, written};
 
 // The first `len` bytes count; the bytes behind them are zero.
@@ -37,6 +38,17 @@ impl Payload {
             len: n as u8,
             bytes,
         }
+    }
+
+    // How many bytes it stands for.
+    pub fn size(self) -> u8
+        ensures { λ r. ⌜ r ≡ length (content self) ⌝ }
+    {
+        let len = self.len;
+        if len < 64 {
+            return len;
+        }
+        64
     }
 
     // The payload's bytes at the start of a reply space, as far as they fit; the rest of it is kept.
