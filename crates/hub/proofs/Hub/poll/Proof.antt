@@ -1,0 +1,63 @@
+use mathlib.Core.Path.{refl}
+use Rattle.hub.specs.Call.{Poll}
+use Rattle.hub.specs.Step.{within, roomy, heard, fitting, served}
+use Rattle.hub.proofs.Ways.{poll-nothing, poll-data}
+use Rattle.hub.proofs.Order.{refused-by, served-by}
+use borrow.Author.Needs.{needs}
+use Rattle.hub.proofs.Hub.poll.Statement.{statement}
+use Rattle.hub.proofs.Hub.poll.Tie as tie
+
+first-refusal-requires : tie.Need-first-refusal-requires
+first-refusal-requires c κs = search needs
+
+answer-requires : tie.Need-answer-requires
+answer-requires c κs = search needs
+
+returns : tie.Need-returns
+unfolding within roomy heard fitting
+returns c =
+    refused-by _ (Poll _) (c .answer .ensures) (c .before .before .first-refusal .ensures) refl refl refl refl (c .before .if1 .taken)
+
+bitmap-requires : tie.Need-bitmap-requires
+bitmap-requires c κs = search needs
+
+answer-requires-2 : tie.Need-answer-requires-2
+answer-requires-2 c κs = search needs
+
+returns-2 : tie.Need-returns-2
+unfolding within roomy heard fitting served
+returns-2 c =
+    let b = c .before .before in
+    served-by _ (Poll _) (b .before .before .first-refusal .ensures) refl refl refl refl (b .before .if1 .left)
+    (poll-nothing _ (c .answer2 .ensures) (b .bitmap .ensures) (c .before .if2 .taken))
+
+slice-aggregate-of : tie.Need-slice-aggregate-of
+slice-aggregate-of c = search needs
+
+of-requires : tie.Need-of-requires
+of-requires c κs = search needs
+
+give-data-requires : tie.Need-give-data-requires
+give-data-requires c κs = search needs
+
+returns-3 : tie.Need-returns-3
+unfolding within roomy heard fitting served
+returns-3 c =
+    let b = c .before .before .before .before in
+    served-by _ (Poll _) (b .before .before .first-refusal .ensures) refl refl refl refl (b .before .if1 .left)
+    (poll-data _ (c .give-data .ensures) (c .before .of .ensures) (b .bitmap .ensures) (c .before .before .before .if2 .left))
+
+pub poll-spec : {M : Type 1} → statement M
+poll-spec =
+    tie.close
+    (tie.spec
+    first-refusal-requires
+    answer-requires
+    returns
+    bitmap-requires
+    answer-requires-2
+    returns-2
+    slice-aggregate-of
+    of-requires
+    give-data-requires
+    returns-3)

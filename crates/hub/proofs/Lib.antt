@@ -1,0 +1,9 @@
+pub mod Order
+pub mod Numbers
+pub mod Ways
+pub mod Ports
+pub mod Valid
+pub mod Refused
+pub mod MadeFrom
+pub mod Bytes
+pub mod Claimed

@@ -1,0 +1,248 @@
+-- A call on the blanked hub with blanked bytes is the blanked call. Assumes nothing.
+use Prim.Native.Nat.{ℕ}
+use mathlib.Core.Path.{_≡_, refl, ap}
+use mathlib.Core.List.{List, [], _∷_}
+use mathlib.Core.Bool.{Bool, true, false, cond, _||_, and-eq-true-iff}
+use lib.Dec.{eqb}
+use lib.ListN.{length}
+use Rattle.payload.specs.declared.Payload.{Payload}
+use Rattle.ports.specs.Bitmap.{bitmapOf}
+use Rattle.ports.specs.declared.Sweep.the-variants.{Tick as Tick′}
+use Rattle.ports.specs.Sweep.{swept}
+use Rattle.buffer.specs.declared.Direction.{Direction}
+use Rattle.buffer.specs.declared.Direction.the-variants as direction
+use Rattle.buffer.specs.declared.Key.{Key}
+use Rattle.buffer.specs.Key as key
+use Rattle.buffer.specs.Key.{sameKey}
+use Rattle.buffer.specs.Lengths.{startFits}
+use Rattle.translator.specs.declared.CompleteAnswer.{CompleteAnswer}
+use Rattle.translator.specs.declared.CompleteAnswer.the-variants.{NoMatch, NotYet, Gives}
+use Rattle.translator.specs.declared.LaunchAnswer.{LaunchAnswer}
+use Rattle.translator.specs.declared.LaunchAnswer.the-variants.{NothingPending, Occupied, Launches}
+use Rattle.translator.specs.CompleteSplit.{completeSplit}
+use Rattle.translator.specs.Launch.{launch}
+use Rattle.translator.specs.Clear.{clearBuffer}
+use Rattle.translator.specs.Translator.{emptied}
+use Rattle.numbers.specs.Named.{pidFrom, resultFrom, directionFrom}
+use Rattle.numbers.specs.Written.{directionNumber}
+use Rattle.numbers.specs.Split.{splitNamed, splitFrom, keyFrom}
+use Rattle.request.specs.declared.Kind.{Kind}
+use Rattle.request.specs.declared.Kind.the-variants as kind
+use Rattle.request.specs.declared.Request.{Request}
+use Rattle.request.specs.declared.Request.the-variants.{Wrong, SetConfiguration, GetConfiguration, GetHubDescriptor, GetHubStatus, GetPortStatus, ClearHubFeature, ClearPortFeature, SetPortFeature, ClearTTBuffer, ResetTT}
+use Rattle.request.specs.Setup.{setupOf}
+use Rattle.request.specs.Table.{kindOf}
+use Rattle.request.specs.Request.{requestOf}
+use Rattle.hub.specs.declared.Hub.{Hub}
+use Rattle.hub.specs.Hub.{withPorts, withTranslator, configuredAs, resetHub, tickedHub}
+use Rattle.hub.specs.Call.{Call, Control, Poll, Start, Complete, Launch, Deliver, Event as Line, Tick, BusReset, Answer, Outcome, plainAnswer, pidAnswer, plain, done, refuse, gives}
+use Rattle.hub.specs.Requests.{setFeature, clearFeature, byRequest, servedAlways, requested}
+use Rattle.hub.specs.Rules.{polled, completedBy, launchedBy}
+use Rattle.hub.specs.Step.{within, roomy, heard, fitting, served, firstRefusal, step}
+use Rattle.runs.specs.History.{Asks, nothing, starts, completes, launches, delivers, clears, empties, keyOf, requestAsks, asks, answerKey}
+use Rattle.runs.proofs.Steps.{start-key, complete-key}
+use Rattle.runs.proofs.Hiding.{blank, length-blank, blank-nil, blankP, blank-content, hideT, shown, marked, hide-start, hide-complete, hide-launch, hide-deliver, hide-clear}
+
+module _ (m : Key) where
+  abbrev pub hideH : Hub → Hub
+  hideH h = withTranslator h (hideT m (h .translator))
+
+  abbrev pub hideC : Hub → Call → Call
+  hideC h (Control s room) = Control s room
+  hideC h (Poll room) = Poll room
+  hideC h (Start p t f g a e l) = Start p t f g a e (blank (sameKey (keyOf a e (key.directionOf (pidFrom p))) m) l)
+  hideC h (Complete a e d room) = Complete a e d room
+  hideC h (Launch room) = Launch room
+  hideC h (Deliver r l) = Deliver r (blank (shown m (h .translator .buffers) (h .translator .low)) l)
+  hideC h (Line e n) = Line e n
+  hideC h Tick = Tick
+  hideC h BusReset = BusReset
+
+  -- payload bytes launched for the mark or answered to complete-splits for it
+  abbrev pub excepted : Asks → Answer → Bool
+  excepted nothing a = false
+  excepted (starts k) a = false
+  excepted (completes k) a = sameKey k m
+  excepted launches a = sameKey (answerKey a) m
+  excepted (delivers r l) a = false
+  excepted (clears k) a = false
+  excepted empties a = false
+
+  abbrev pub hideA : Asks → Answer → Answer
+  hideA x a =
+      record {
+        number = a .number;
+        pid = a .pid;
+        transfer = a .transfer;
+        address = a .address;
+        endpoint = a .endpoint;
+        direction = a .direction;
+        lowspeed = a .lowspeed;
+        toggle = a .toggle;
+        bytes = blank (excepted x a) (a .bytes);
+      }
+
+  abbrev pub hideO : Asks → Outcome → Outcome
+  hideO x o = record { next = hideH (o .next); answer = hideA x (o .answer) }
+
+  -- an answer without bytes
+  hide-plain : (x : Asks) (h : Hub) (n : ℕ) → plain (hideH h) n ≡ hideO x (plain h n)
+  hide-plain x h n = rw (blank-nil (excepted x (plainAnswer n)))
+
+  hide-gives : (x : Asks) (h : Hub) (l : List ℕ) → excepted x (pidAnswer 1 0 l) ≡ false → gives (hideH h) l ≡ hideO x (gives h l)
+  hide-gives x h l e = rw e
+
+  -- a request never gives payload bytes
+  request-shown : (k : Kind) (v : ℕ) (a : Answer) → excepted (requestAsks k v) a ≡ false
+  request-shown kind.Unknown v a = refl
+  request-shown kind.SetConfiguration v a = refl
+  request-shown kind.GetConfiguration v a = refl
+  request-shown kind.GetHubDescriptor v a = refl
+  request-shown kind.GetHubStatus v a = refl
+  request-shown kind.GetPortStatus v a = refl
+  request-shown kind.ClearHubFeature v a = refl
+  request-shown kind.ClearPortFeature v a = refl
+  request-shown kind.SetPortFeature v a = refl
+  request-shown kind.ClearTTBuffer v a = refl
+  request-shown kind.ResetTT v a = refl
+
+  hide-request : (x : Asks) (h : Hub) (r : Request) → ((a : Answer) → excepted x a ≡ false) → byRequest (hideH h) r ≡ hideO x (byRequest h r)
+  unfolding configuredAs
+  hide-request x h (Wrong f) n = hide-plain x h 2
+  hide-request x h (SetConfiguration on) n = hide-plain x (configuredAs on h) 0
+  hide-request x h GetConfiguration n = hide-gives x h _ (n _)
+  hide-request x h (GetHubDescriptor l) n = hide-gives x h _ (n _)
+  hide-request x h GetHubStatus n = hide-gives x h _ (n _)
+  hide-request x h (GetPortStatus p) n = hide-gives x h _ (n _)
+  hide-request x h ClearHubFeature n = hide-plain x h 0
+  hide-request x h (ClearPortFeature p f) n = hide-plain x (clearFeature h p f) 0
+  hide-request x h (SetPortFeature p f) n = hide-plain x (setFeature h p f) 0
+  hide-request x h (ClearTTBuffer k) n = rw (hide-clear m (h .translator) k) (hide-plain x (withTranslator h (clearBuffer (h .translator) k)) 0)
+  hide-request x h ResetTT n = hide-plain x (withTranslator h (emptied (h .translator))) 0
+
+  hide-control : (h : Hub) (s : List ℕ) (room : ℕ) → requested (hideH h) (requestOf (h .identity .ports) s) ≡ hideO (asks (Control s room)) (requested h (requestOf (h .identity .ports) s))
+  unfolding requested asks
+  hide-control h s room = go (h .configured || servedAlways r)
+    where
+      r : Request
+      r = requestOf (h .identity .ports) s
+
+      x : Asks
+      x = requestAsks (kindOf (setupOf s .requesttype) (setupOf s .code)) (setupOf s .value)
+
+      go : (b : Bool) → cond b (byRequest (hideH h) r) (refuse 2 (hideH h)) ≡ hideO x (cond b (byRequest h r) (refuse 2 h))
+      go true = hide-request x h r (request-shown (kindOf (setupOf s .requesttype) (setupOf s .code)) (setupOf s .value))
+      go false = hide-plain x h 2
+
+  hide-poll : (h : Hub) (room : ℕ) → polled (hideH h) ≡ hideO (asks (Poll room)) (polled h)
+  unfolding polled asks
+  hide-poll h room = go (eqb (bitmapOf (h .identity .ports) (h .ports)) 0)
+    where
+      go : (b : Bool) → cond b (refuse 3 (hideH h)) (gives (hideH h) (bitmapOf (h .identity .ports) (h .ports) ∷ []))
+          ≡ hideO nothing (cond b (refuse 3 h) (gives h (bitmapOf (h .identity .ports) (h .ports) ∷ [])))
+      go true = refl
+      go false = refl
+
+  hide-tick : (h : Hub) → done (tickedHub (hideH h)) ≡ hideO (asks Tick) (done (tickedHub h))
+  unfolding tickedHub asks
+  hide-tick h = go (h .configured)
+    where
+      go : (b : Bool) → done (cond b (withPorts (hideH h) (swept Tick′ (h .identity .ports) (h .ports))) (hideH h)) ≡ hideO nothing (done (cond b (withPorts h (swept Tick′ (h .identity .ports) (h .ports))) h))
+      go true = refl
+      go false = refl
+
+  hide-completed : (k : Key) (h : Hub) (a : CompleteAnswer) (p : Payload) → completedBy (hideH h) a (blankP (sameKey k m) p) ≡ hideO (completes k) (completedBy h a p)
+  hide-completed k h NoMatch p = hide-plain (completes k) h 2
+  hide-completed k h NotYet p = hide-plain (completes k) h 4
+  hide-completed k h (Gives r) p = rw (blank-content (sameKey k m) p)
+
+  direction-back : (d : Direction) → directionFrom (directionNumber d) ≡ d
+  direction-back direction.Out = refl
+  direction-back direction.In = refl
+
+  hide-launched : (h : Hub) (a : LaunchAnswer) (p : Payload) → launchedBy (hideH h) a (blankP (marked m a) p) ≡ hideO launches (launchedBy h a p)
+  hide-launched h NothingPending p = hide-plain launches h 3
+  hide-launched h Occupied p = hide-plain launches h 8
+  hide-launched h (Launches s) p = rw (direction-back (key.directionOf (s .pid)), blank-content (sameKey (key.keyOf s) m) p)
+
+  -- ---- one call
+
+  hide-within : (h : Hub) (c : Call) → within (hideH h) (hideC h c) ≡ within h c
+  unfolding within
+  hide-within h (Control s room) = refl
+  hide-within h (Poll room) = refl
+  hide-within h (Start p t f g a e l) = rw (length-blank (sameKey (keyOf a e (key.directionOf (pidFrom p))) m) l)
+  hide-within h (Complete a e d room) = refl
+  hide-within h (Launch room) = refl
+  hide-within h (Deliver r l) = rw (length-blank (shown m (h .translator .buffers) (h .translator .low)) l)
+  hide-within h (Line e n) = refl
+  hide-within h Tick = refl
+  hide-within h BusReset = refl
+
+  hide-roomy : (h : Hub) (c : Call) → roomy (hideC h c) ≡ roomy c
+  unfolding roomy
+  hide-roomy h (Control s room) = refl
+  hide-roomy h (Poll room) = refl
+  hide-roomy h (Start p t f g a e l) = refl
+  hide-roomy h (Complete a e d room) = refl
+  hide-roomy h (Launch room) = refl
+  hide-roomy h (Deliver r l) = refl
+  hide-roomy h (Line e n) = refl
+  hide-roomy h Tick = refl
+  hide-roomy h BusReset = refl
+
+  hide-heard : (h : Hub) (c : Call) → heard (hideH h) (hideC h c) ≡ heard h c
+  unfolding heard
+  hide-heard h (Control s room) = refl
+  hide-heard h (Poll room) = refl
+  hide-heard h (Start p t f g a e l) = refl
+  hide-heard h (Complete a e d room) = refl
+  hide-heard h (Launch room) = refl
+  hide-heard h (Deliver r l) = refl
+  hide-heard h (Line e n) = refl
+  hide-heard h Tick = refl
+  hide-heard h BusReset = refl
+
+  hide-fitting : (h : Hub) (c : Call) → fitting (hideH h) (hideC h c) ≡ fitting h c
+  unfolding fitting
+  hide-fitting h (Control s room) = refl
+  hide-fitting h (Poll room) = refl
+  hide-fitting h (Start p t f g a e l) = refl
+  hide-fitting h (Complete a e d room) = refl
+  hide-fitting h (Launch room) = rw (hide-launch m (h .translator))
+  hide-fitting h (Deliver r l) = rw (hide-deliver m (h .translator) (resultFrom r) l)
+  hide-fitting h (Line e n) = refl
+  hide-fitting h Tick = refl
+  hide-fitting h BusReset = refl
+
+  hide-served : (h : Hub) (c : Call) → within h c ≡ true → served (hideH h) (hideC h c) ≡ hideO (asks c) (served h c)
+  unfolding served within asks resetHub
+  hide-served h (Control s room) w = hide-control h s room
+  hide-served h (Poll room) w = hide-poll h room
+  hide-served h (Start p t f g a e l) w =
+      let named = and-eq-true-iff (splitNamed p t f g a e) (startFits (splitFrom p t f g a e) (length l)) .0 w in
+      let same = ap (λ (k : Key). sameKey k m) (start-key p t f g a e (named .0)) in
+      rw (same, hide-start m (h .translator) (splitFrom p t f g a e) l)
+  hide-served h (Complete a e d room) w =
+      let o = completeSplit (h .translator) (keyFrom a e d) in
+      rw (hide-complete m (h .translator) (keyFrom a e d), complete-key a e d w) (hide-completed (keyFrom a e d) (withTranslator h (o .next)) (o .answer) (o .payload))
+  hide-served h (Launch room) w =
+      let o = launch (h .translator) in
+      rw (hide-launch m (h .translator)) (hide-launched (withTranslator h (o .next)) (o .answer) (o .payload))
+  hide-served h (Deliver r l) w = rw (hide-deliver m (h .translator) (resultFrom r) l)
+  hide-served h (Line e n) w = refl
+  hide-served h Tick w = hide-tick h
+  hide-served h BusReset w = refl
+
+  pub step-hide : (h : Hub) (c : Call) → step (hideH h) (hideC h c) ≡ hideO (asks c) (step h c)
+  unfolding step
+  step-hide h c = rw (hide-within h c, hide-roomy h c, hide-heard h c, hide-fitting h c) (go (within h c) refl (roomy c) (heard h c) (fitting h c))
+    where
+      go : (w : Bool) → within h c ≡ w → (r s f : Bool)
+          → cond (eqb (firstRefusal w r s f) 0) (served (hideH h) (hideC h c)) (refuse (firstRefusal w r s f) (hideH h))
+          ≡ hideO (asks c) (cond (eqb (firstRefusal w r s f) 0) (served h c) (refuse (firstRefusal w r s f) h))
+      go false e r s f = hide-plain (asks c) h 6
+      go true e false s f = hide-plain (asks c) h 7
+      go true e true false f = hide-plain (asks c) h 5
+      go true e true true false = hide-plain (asks c) h 8
+      go true e true true true = hide-served h c e

@@ -1,0 +1,14 @@
+pub mod Histories
+pub mod Invariant
+pub mod Kept
+pub mod Steps
+pub mod Hiding
+pub mod HidingHub
+pub mod Theorems
+pub mod Line
+pub mod LineSteps
+pub mod Reaching
+pub mod Refusing
+pub mod Refuted
+pub mod RefusalsRefuted
+pub mod EmptyRefuted

@@ -1,0 +1,204 @@
+-- Every call on the hub keeps the translator tied to the history. Assumes nothing.
+use Prim.Native.Nat.{ℕ, _<_, _%_}
+use native.Mathlib.Omega.{arith}
+use mathlib.Core.Path.{_≡_, refl, sym, ap, subst}
+use mathlib.Core.List.{List, [], _∷_}
+use mathlib.Core.Bool.{Bool, true, false, cond, _&&_, _||_, and-eq-true-iff}
+use borrow.Author.Tests.{ltb-true}
+use lib.Dec.{eqb, ltb}
+use lib.ListN.{length}
+use Rattle.buffer.specs.Key as key
+use Rattle.buffer.specs.Lengths.{startFits, resultLength}
+use Rattle.payload.specs.declared.Payload.{Payload}
+use Rattle.ports.specs.declared.Sweep.the-variants.{Tick as Tick′}
+use Rattle.ports.specs.Sweep.{swept}
+use Rattle.ports.specs.Bitmap.{bitmapOf}
+use Rattle.translator.specs.declared.CompleteAnswer.{CompleteAnswer}
+use Rattle.translator.specs.declared.CompleteAnswer.the-variants.{NoMatch, NotYet, Gives}
+use Rattle.translator.specs.declared.LaunchAnswer.{LaunchAnswer}
+use Rattle.translator.specs.declared.LaunchAnswer.the-variants.{NothingPending, Occupied, Launches}
+use Rattle.translator.specs.CompleteSplit.{completeSplit}
+use Rattle.translator.specs.Launch.{launch}
+use Rattle.numbers.specs.Named.{pidFrom, isPid, isType, isFlag, isResult, resultFrom, isDirection, directionFrom}
+use Rattle.numbers.specs.Split.{splitNamed, splitFrom, keyNamed, keyFrom}
+use Rattle.request.specs.declared.Kind.{Kind}
+use Rattle.request.specs.declared.Kind.the-variants as kind
+use Rattle.request.specs.declared.Fault.the-variants.{TypeOrCode, Value, Index, Length}
+use Rattle.request.specs.declared.Request.{Request}
+use Rattle.request.specs.declared.Request.the-variants.{Wrong, SetConfiguration, GetConfiguration, GetHubDescriptor, GetHubStatus, GetPortStatus, ClearHubFeature, ClearPortFeature, SetPortFeature, ClearTTBuffer, ResetTT}
+use Rattle.request.specs.Setup.{setupOf}
+use Rattle.request.specs.Table.{kindOf, isKnown, valueFits, indexFits, lengthFits}
+use Rattle.request.specs.Request.{meaning, checked, requestOf}
+use Rattle.hub.specs.declared.Hub.{Hub}
+use Rattle.hub.specs.Hub.{withPorts, withTranslator, configuredAs, resetHub, tickedHub}
+use Rattle.hub.specs.Call.{Call, Control, Poll, Start, Complete, Launch, Deliver, Event as Line, Tick, BusReset, Outcome, plainAnswer, done, refuse, gives}
+use Rattle.hub.specs.Requests.{byRequest, servedAlways, requested}
+use Rattle.hub.specs.Rules.{polled, completedBy, launchedBy}
+use Rattle.hub.specs.Step.{within, roomy, heard, fitting, served, firstRefusal, step}
+use Rattle.runs.specs.History.{History, Asks, nothing, starts, completes, clears, empties, keyOf, requestAsks, asks}
+use Rattle.runs.proofs.Histories.{Refused}
+use Rattle.runs.proofs.Kept.{Tied, Kept, refused-kept, nothing-kept, start-kept, complete-kept, launch-said, deliver-kept, clear-said, empty-said}
+
+-- ---- the key of a call whose numbers are within the rules
+
+pub start-key : (p t f g a e : ℕ) → splitNamed p t f g a e ≡ true → keyOf a e (key.directionOf (pidFrom p)) ≡ key.keyOf (splitFrom p t f g a e)
+unfolding splitNamed splitFrom
+start-key p t f g a e named =
+    let x = and-eq-true-iff (isPid p && isType t) ((isFlag f && isFlag g) && (ltb a 128 && ltb e 16)) .0 named in
+    let y = and-eq-true-iff (isFlag f && isFlag g) (ltb a 128 && ltb e 16) .0 (x .1) in
+    let z = and-eq-true-iff (ltb a 128) (ltb e 16) .0 (y .1) in
+    let u : a < 128 = ltb-true a 128 (z .0) in
+    let v : e < 16 = ltb-true e 16 (z .1) in
+    let am : a ≡ a % 128 = omega (arith, u) in
+    let em : e ≡ e % 16 = omega (arith, v) in
+    λ i. record { address = record { 0 = am i }; endpoint = em i; direction = key.directionOf (pidFrom p) }
+
+pub complete-key : (a e d : ℕ) → keyNamed a e d ≡ true → keyOf a e (directionFrom d) ≡ keyFrom a e d
+unfolding keyNamed keyFrom
+complete-key a e d named =
+    let x = and-eq-true-iff (ltb a 128 && ltb e 16) (isDirection d) .0 named in
+    let z = and-eq-true-iff (ltb a 128) (ltb e 16) .0 (x .0) in
+    let u : a < 128 = ltb-true a 128 (z .0) in
+    let v : e < 16 = ltb-true e 16 (z .1) in
+    let am : a ≡ a % 128 = omega (arith, u) in
+    let em : e ≡ e % 16 = omega (arith, v) in
+    λ i. record { address = record { 0 = am i }; endpoint = em i; direction = directionFrom d }
+
+-- ---- what a request that is served asks of the translator
+
+abbrev pub AsksFor : Request → Asks → Type 0
+AsksFor (Wrong f) x = Unit {0}
+AsksFor (SetConfiguration on) x = x ≡ empties
+AsksFor GetConfiguration x = x ≡ nothing
+AsksFor (GetHubDescriptor n) x = x ≡ nothing
+AsksFor GetHubStatus x = x ≡ nothing
+AsksFor (GetPortStatus n) x = x ≡ nothing
+AsksFor ClearHubFeature x = x ≡ nothing
+AsksFor (ClearPortFeature n f) x = x ≡ nothing
+AsksFor (SetPortFeature n f) x = x ≡ nothing
+AsksFor (ClearTTBuffer k) x = x ≡ clears k
+AsksFor ResetTT x = x ≡ empties
+
+meaning-asks : (k : Kind) (v i l : ℕ) → AsksFor (meaning k v i l) (requestAsks k v)
+meaning-asks kind.Unknown v i l = tt
+meaning-asks kind.SetConfiguration v i l = refl
+meaning-asks kind.GetConfiguration v i l = refl
+meaning-asks kind.GetHubDescriptor v i l = refl
+meaning-asks kind.GetHubStatus v i l = refl
+meaning-asks kind.GetPortStatus v i l = refl
+meaning-asks kind.ClearHubFeature v i l = refl
+meaning-asks kind.ClearPortFeature v i l = refl
+meaning-asks kind.SetPortFeature v i l = refl
+meaning-asks kind.ClearTTBuffer v i l = refl
+meaning-asks kind.ResetTT v i l = refl
+
+pub request-asks : (n : ℕ) (s : List ℕ) (room : ℕ) → AsksFor (requestOf n s) (asks (Control s room))
+unfolding asks requestOf checked
+request-asks n s room =
+    go (isKnown k) (valueFits k (setupOf s .value)) (indexFits n k (setupOf s .index)) (lengthFits k (setupOf s .length))
+  where
+    k : Kind
+    k = kindOf (setupOf s .requesttype) (setupOf s .code)
+
+    go : (a b c d : Bool)
+        → AsksFor (cond a (cond b (cond c (cond d (meaning k (setupOf s .value) (setupOf s .index) (setupOf s .length)) (Wrong Length)) (Wrong Index)) (Wrong Value)) (Wrong TypeOrCode)) (requestAsks k (setupOf s .value))
+    go true true true true = meaning-asks k (setupOf s .value) (setupOf s .index) (setupOf s .length)
+    go true true true false = tt
+    go true true false d = tt
+    go true false c d = tt
+    go false b c d = tt
+
+-- ---- one call
+
+-- the hub of an outcome doesn't depend on the answer
+pub completed-next : (h : Hub) (a : CompleteAnswer) (p : Payload) → completedBy h a p .next ≡ h
+completed-next h NoMatch p = refl
+completed-next h NotYet p = refl
+completed-next h (Gives r) p = refl
+
+pub launched-next : (h : Hub) (a : LaunchAnswer) (p : Payload) → launchedBy h a p .next ≡ h
+launched-next h NothingPending p = refl
+launched-next h Occupied p = refl
+launched-next h (Launches s) p = refl
+
+module _ (h : History) (hub : Hub) (tied : Tied h (hub .translator)) where
+  abbrev KeptBy : Call → Outcome → Type 0
+  KeptBy c o = Kept h c (o .next .translator) (o .answer)
+
+  refusal : (c : Call) (n : ℕ) → Refused (plainAnswer n) → KeptBy c (refuse n hub)
+  refusal c n r = refused-kept h (hub .translator) tied c (plainAnswer n) r
+
+  by-request : (c : Call) (r : Request) → AsksFor r (asks c) → KeptBy c (byRequest hub r)
+  unfolding configuredAs
+  by-request c (Wrong f) q = refusal c 2 (record { not-0 = refl; not-1 = refl; not-9 = refl })
+  by-request c (SetConfiguration on) q = empty-said h (hub .translator) tied c q
+  by-request c GetConfiguration q = nothing-kept h (hub .translator) tied c _ q
+  by-request c (GetHubDescriptor n) q = nothing-kept h (hub .translator) tied c _ q
+  by-request c GetHubStatus q = nothing-kept h (hub .translator) tied c _ q
+  by-request c (GetPortStatus n) q = nothing-kept h (hub .translator) tied c _ q
+  by-request c ClearHubFeature q = nothing-kept h (hub .translator) tied c _ q
+  by-request c (ClearPortFeature n f) q = nothing-kept h (hub .translator) tied c _ q
+  by-request c (SetPortFeature n f) q = nothing-kept h (hub .translator) tied c _ q
+  by-request c (ClearTTBuffer k) q = clear-said h (hub .translator) tied c k q
+  by-request c ResetTT q = empty-said h (hub .translator) tied c q
+
+  control : (s : List ℕ) (room : ℕ) → KeptBy (Control s room) (requested hub (requestOf (hub .identity .ports) s))
+  unfolding requested
+  control s room = go (hub .configured || servedAlways r)
+    where
+      r : Request
+      r = requestOf (hub .identity .ports) s
+
+      go : (x : Bool) → KeptBy (Control s room) (cond x (byRequest hub r) (refuse 2 hub))
+      go true = by-request (Control s room) r (request-asks (hub .identity .ports) s room)
+      go false = refusal (Control s room) 2 (record { not-0 = refl; not-1 = refl; not-9 = refl })
+
+  poll : (room : ℕ) → KeptBy (Poll room) (polled hub)
+  unfolding polled asks
+  poll room = go (eqb (bitmapOf (hub .identity .ports) (hub .ports)) 0)
+    where
+      go : (x : Bool) → KeptBy (Poll room) (cond x (refuse 3 hub) (gives hub (bitmapOf (hub .identity .ports) (hub .ports) ∷ [])))
+      go true = nothing-kept h (hub .translator) tied (Poll room) _ refl
+      go false = nothing-kept h (hub .translator) tied (Poll room) _ refl
+
+  tick : KeptBy Tick (done (tickedHub hub))
+  unfolding tickedHub asks
+  tick = go (hub .configured)
+    where
+      go : (x : Bool) → KeptBy Tick (done (cond x (withPorts hub (swept Tick′ (hub .identity .ports) (hub .ports))) hub))
+      go true = nothing-kept h (hub .translator) tied Tick _ refl
+      go false = nothing-kept h (hub .translator) tied Tick _ refl
+
+  serve : (c : Call) → within hub c ≡ true → KeptBy c (served hub c)
+  unfolding served within asks resetHub
+  serve (Control s room) w = control s room
+  serve (Poll room) w = poll room
+  serve (Start p t f g a e l) w =
+      let x = and-eq-true-iff (splitNamed p t f g a e) (startFits (splitFrom p t f g a e) (length l)) .0 w in
+      start-kept h (hub .translator) tied (Start p t f g a e l) (splitFrom p t f g a e) l (ap starts (start-key p t f g a e (x .0))) (x .1)
+  serve (Complete a e d room) w =
+      let o = completeSplit (hub .translator) (keyFrom a e d) in
+      let next = withTranslator hub (o .next) in
+      subst (λ (u : Hub). Kept h (Complete a e d room) (u .translator) (completedBy next (o .answer) (o .payload) .answer)) (sym (completed-next next (o .answer) (o .payload)))
+      (complete-kept h (hub .translator) tied next (Complete a e d room) (keyFrom a e d) (ap completes (complete-key a e d w)))
+  serve (Launch room) w =
+      let o = launch (hub .translator) in
+      let next = withTranslator hub (o .next) in
+      subst (λ (u : Hub). Kept h (Launch room) (u .translator) (launchedBy next (o .answer) (o .payload) .answer)) (sym (launched-next next (o .answer) (o .payload)))
+      (launch-said h (hub .translator) tied next (Launch room) refl)
+  serve (Deliver r l) w = deliver-kept h (hub .translator) tied (Deliver r l) (resultFrom r) l refl (and-eq-true-iff (isResult r) (resultLength (resultFrom r) (length l)) .0 w .1)
+  serve (Line e n) w = nothing-kept h (hub .translator) tied (Line e n) _ refl
+  serve Tick w = tick
+  serve BusReset w = empty-said h (hub .translator) tied BusReset refl
+
+  pub step-kept : (c : Call) → KeptBy c (step hub c)
+  unfolding step
+  step-kept c = go (within hub c) refl (roomy c) (heard hub c) (fitting hub c)
+    where
+      go : (w : Bool) → within hub c ≡ w → (r s f : Bool)
+          → KeptBy c (cond (eqb (firstRefusal w r s f) 0) (served hub c) (refuse (firstRefusal w r s f) hub))
+      go false e r s f = refusal c 6 (record { not-0 = refl; not-1 = refl; not-9 = refl })
+      go true e false s f = refusal c 7 (record { not-0 = refl; not-1 = refl; not-9 = refl })
+      go true e true false f = refusal c 5 (record { not-0 = refl; not-1 = refl; not-9 = refl })
+      go true e true true false = refusal c 8 (record { not-0 = refl; not-1 = refl; not-9 = refl })
+      go true e true true true = serve c e

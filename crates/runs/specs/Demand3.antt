@@ -1,0 +1,87 @@
+-- Demand 3. A reader must believe: the two halves below are its words.
+use Prim.Native.Nat.{ℕ}
+use mathlib.Core.Path.{_≡_}
+use mathlib.Core.Option.{Option, some}
+use mathlib.Core.List.{List, [], _∷_}
+use lib.ListN.{length}
+use Rattle.buffer.specs.declared.Key.{Key}
+use Rattle.buffer.specs.Key.{directionOf}
+use Rattle.numbers.specs.Named.{pidFrom}
+use Rattle.hub.specs.Call.{Call, Start, Deliver, Answer}
+use Rattle.runs.specs.History.{Event, History, Asks, nothing, starts, completes, launches, delivers, clears, empties, keyOf, asks, answerKey, lastStored, For, lastFor, deliveredTo}
+use Rattle.runs.specs.Machine.{Machine, run}
+
+-- ---- first half: whatever the marked bytes are, they show nowhere else
+
+-- Two calls of the two runs: the same but for payload bytes in start-splits to the mark m and in results delivered for it (l is what the
+-- first run's last launch answered 1 was for); lengths and kinds agree.
+pub data SameCall (m : Key) (l : Option For) : Call → Call → Type 0 where
+  same : (c : Call) → SameCall m l c c
+  start : (p t f g a e : ℕ) (x y : List ℕ) → keyOf a e (directionOf (pidFrom p)) ≡ m → length x ≡ length y
+      → SameCall m l (Start p t f g a e x) (Start p t f g a e y)
+  deliver : (r : ℕ) (x y : List ℕ) (s : Option ℕ) → l ≡ some (record { key = m; place = s }) → length x ≡ length y
+      → SameCall m l (Deliver r x) (Deliver r y)
+
+unfoldable pub SameCalls : Key → History → List Event → List Event → Type 0
+SameCalls m h [] [] = Unit {0}
+SameCalls m h [] (f ∷ fs) = ⊥
+SameCalls m h (e ∷ es) [] = ⊥
+SameCalls m h (e ∷ es) (f ∷ fs) = SameCall m (lastFor h) (e .call) (f .call) × SameCalls m (e ∷ h) es fs
+
+-- payload bytes launched for the mark or answered to complete-splits for it
+abbrev pub Excepted : Key → Asks → Answer → Type 0
+Excepted m nothing a = ⊥
+Excepted m (starts k) a = ⊥
+Excepted m (completes k) a = k ≡ m
+Excepted m launches a = answerKey a ≡ m
+Excepted m (delivers r l) a = ⊥
+Excepted m (clears k) a = ⊥
+Excepted m empties a = ⊥
+
+pub record SameAnswer (m : Key) (c : Call) (a b : Answer) : Type 0 where
+  pub number : a .number ≡ b .number
+  pub pid : a .pid ≡ b .pid
+  pub transfer : a .transfer ≡ b .transfer
+  pub address : a .address ≡ b .address
+  pub endpoint : a .endpoint ≡ b .endpoint
+  pub direction : a .direction ≡ b .direction
+  pub lowspeed : a .lowspeed ≡ b .lowspeed
+  pub toggle : a .toggle ≡ b .toggle
+  pub size : length (a .bytes) ≡ length (b .bytes)
+  pub bytes : ¬ (Excepted m (asks c) a) → a .bytes ≡ b .bytes
+
+unfoldable pub SameAnswers : Key → List Event → List Event → Type 0
+SameAnswers m [] [] = Unit {0}
+SameAnswers m [] (f ∷ fs) = ⊥
+SameAnswers m (e ∷ es) [] = ⊥
+SameAnswers m (e ∷ es) (f ∷ fs) = SameAnswer m (e .call) (e .answer) (f .answer) × SameAnswers m es fs
+
+-- Take any two runs on equal new hubs that hold the same calls in the same order, but for those bytes. Then each call has the same answer
+-- in both, except those bytes.
+abbrev pub MarkHidden : Machine → Type 0
+MarkHidden w = (m : Key) (n : w .Made) (cs ds : List (w .Asked)) → SameCalls m [] (run w n cs) (run w n ds) → SameAnswers m (run w n cs) (run w n ds)
+
+-- ---- second half: a data answer holds exactly the bytes delivered for the latest start-split stored under its key
+
+-- A complete-split answered 1 gives DATA0 or DATA1, n and the bytes of the only data delivery answered 0 for the start-split last stored
+-- under its key by then.
+abbrev pub Explained : Asks → Answer → History → Type 0
+Explained nothing a h = Unit {0}
+Explained (starts k) a h = Unit {0}
+Explained (completes k) a h = a .number ≡ 1 → deliveredTo h (lastStored h k) ≡ record { pid = a .pid; bytes = a .bytes } ∷ []
+Explained launches a h = Unit {0}
+Explained (delivers r l) a h = Unit {0}
+Explained (clears k) a h = Unit {0}
+Explained empties a h = Unit {0}
+
+-- each of the events es, which came after h
+unfoldable pub AllExplained : History → List Event → Type 0
+AllExplained h [] = Unit {0}
+AllExplained h (e ∷ es) = Explained (asks (e .call)) (e .answer) h × AllExplained (e ∷ h) es
+
+abbrev pub DataExplained : Machine → Type 0
+DataExplained w = (n : w .Made) (cs : List (w .Asked)) → AllExplained [] (run w n cs)
+
+pub record Demand3 (w : Machine) : Type 0 where
+  pub mark-hidden : MarkHidden w
+  pub data-explained : DataExplained w

@@ -1,0 +1,46 @@
+-- The four empty programs of document 01, and that demand 2 shuts each out. A reader must believe: each is the program that its comment names.
+use Rattle.translator.specs.declared.Earliest.{Earliest}
+use Rattle.translator.specs.declared.Earliest.the-variants.{NonePending, Stored}
+use Rattle.translator.specs.Order.{earliest}
+use Rattle.hub.specs.declared.Hub.{Hub}
+use Rattle.hub.specs.Call.{Call, Control, Poll, Start, Complete, Launch, Deliver, Event, Tick, BusReset, Outcome, refuse}
+use Rattle.hub.specs.Step.{step}
+use Rattle.runs.specs.Machine.{ruled}
+use Rattle.runs.specs.Demand2.{Demand2}
+
+-- refuse everything
+abbrev pub refusesAll : Hub → Call → Outcome
+refusesAll h c = refuse 8 h
+
+-- answer NAK always
+abbrev pub naksAlways : Hub → Call → Outcome
+naksAlways h c = refuse 3 h
+
+-- leave the state alone
+abbrev pub leavesAlone : Hub → Call → Outcome
+leavesAlone h c = record { next = h; answer = step h c .answer }
+
+-- the hub left by a start-split: as it was where one is already pending
+abbrev pub pretendedBy : Earliest → Hub → Hub → Hub
+pretendedBy NonePending h g = g
+pretendedBy (Stored n p) h g = h
+
+-- do the first start properly and only pretend for later ones
+abbrev pub pretends : Hub → Call → Outcome
+pretends h (Control s room) = step h (Control s room)
+pretends h (Poll room) = step h (Poll room)
+pretends h (Start p t f g a e l) =
+    let o = step h (Start p t f g a e l) in
+    record { next = pretendedBy (earliest (h .translator .buffers)) h (o .next); answer = o .answer }
+pretends h (Complete a e d room) = step h (Complete a e d room)
+pretends h (Launch room) = step h (Launch room)
+pretends h (Deliver r l) = step h (Deliver r l)
+pretends h (Event e n) = step h (Event e n)
+pretends h Tick = step h Tick
+pretends h BusReset = step h BusReset
+
+pub record EmptyProgramsShutOut : Type 0 where
+  pub refusing : ¬ (Demand2 (ruled refusesAll))
+  pub naking : ¬ (Demand2 (ruled naksAlways))
+  pub idle : ¬ (Demand2 (ruled leavesAlone))
+  pub pretending : ¬ (Demand2 (ruled pretends))

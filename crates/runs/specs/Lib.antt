@@ -1,0 +1,9 @@
+pub mod History
+pub mod Order
+pub mod Machine
+pub mod Demand2
+pub mod Demand3
+pub mod Refusals
+pub mod Mistakes
+pub mod RefusalMistakes
+pub mod EmptyPrograms

@@ -1,0 +1,61 @@
+-- Which start-splits are pending, and which of them a launch must give, from a run's calls and answers alone.
+-- A reader must believe: a launch answered 1 gives the start-split stored earliest of those still pending; 3 only where none is.
+use Prim.Native.Nat.{ℕ, _≤_}
+use mathlib.Core.Path.{_≡_}
+use mathlib.Core.Option.{Option, none, some}
+use mathlib.Core.List.{List, [], _∷_}
+use mathlib.Core.Bool.{Bool, true, false, cond, not, _&&_, _||_}
+use lib.ListN.{length}
+use lib.Dec.{eqb}
+use Rattle.hub.specs.Call.{Call, Start, Answer}
+use Rattle.runs.specs.History.{Event, History, Asks, nothing, starts, completes, launches, delivers, clears, empties, asks, isDone, isOpen, stores, lastStored, lastFor, isAt, isFor}
+use Rattle.runs.specs.Machine.{Machine, run}
+
+-- whether the start-split s is pending after a call, where w says whether it was before
+unfoldable pub pendingAfter : Asks → Answer → History → ℕ → Bool → Bool
+pendingAfter nothing a h s w = w
+-- it is this one, and it is stored
+pendingAfter (starts k) a h s w = (stores (starts k) a k (isOpen h k) && eqb s (length h)) || w
+pendingAfter (completes k) a h s w = w
+pendingAfter launches a h s w = w
+-- a delivery answered 0 is for it
+pendingAfter (delivers r l) a h s w = not (isDone a && isFor (lastFor h) s) && w
+-- its buffer is emptied
+pendingAfter (clears k) a h s w = not (isDone a && isAt (lastStored h k) s) && w
+pendingAfter empties a h s w = not (isDone a) && w
+
+unfoldable pub isPendingAt : History → ℕ → Bool
+isPendingAt [] s = false
+isPendingAt (e ∷ h) s = pendingAfter (asks (e .call)) (e .answer) h s (isPendingAt h s)
+
+-- the call with s calls before it
+unfoldable pub callAt : History → ℕ → Option Call
+callAt [] s = none
+callAt (e ∷ h) s = cond (eqb s (length h)) (some (e .call)) (callAt h s)
+
+-- the answer a gives key, PID, type, flag, toggle and payload of the earliest start-split that is pending
+pub record Earliest (a : Answer) (h : History) : Type 0 where
+  pub place : ℕ
+  pub pending : isPendingAt h place ≡ true
+  pub earliest : (s : ℕ) → isPendingAt h s ≡ true → place ≤ s
+  pub gives : callAt h place ≡ some (Start (a .pid) (a .transfer) (a .lowspeed) (a .toggle) (a .address) (a .endpoint) (a .bytes))
+
+abbrev pub NonePending : History → Type 0
+NonePending h = (s : ℕ) → isPendingAt h s ≡ false
+
+abbrev pub Ordered : Asks → Answer → History → Type 0
+Ordered nothing a h = Unit {0}
+Ordered (starts k) a h = Unit {0}
+Ordered (completes k) a h = Unit {0}
+Ordered launches a h = (a .number ≡ 1 → Earliest a h) × (a .number ≡ 3 → NonePending h)
+Ordered (delivers r l) a h = Unit {0}
+Ordered (clears k) a h = Unit {0}
+Ordered empties a h = Unit {0}
+
+-- each of the events es, which came after h
+unfoldable pub AllOrdered : History → List Event → Type 0
+AllOrdered h [] = Unit {0}
+AllOrdered h (e ∷ es) = Ordered (asks (e .call)) (e .answer) h × AllOrdered (e ∷ h) es
+
+abbrev pub LaunchOrder : Machine → Type 0
+LaunchOrder w = (n : w .Made) (cs : List (w .Asked)) → AllOrdered [] (run w n cs)

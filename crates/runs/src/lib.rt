@@ -1,0 +1,42 @@
+// Whole runs of calls on a hub. Nothing runs here: each function pins one claim of specs/, so that it can't be dropped or weakened.
+ghost use Rattle.hub.specs.Step.{step};
+ghost use Rattle.runs.specs.Machine.{rules};
+ghost use Rattle.runs.specs.Refusals.{Refusals};
+ghost use Rattle.runs.specs.RefusalMistakes.{RefusalMistakesShutOut};
+ghost use Rattle.runs.specs.Demand2.{Reached};
+ghost use Rattle.runs.specs.EmptyPrograms.{EmptyProgramsShutOut};
+ghost use Rattle.runs.specs.Demand3.{Demand3};
+ghost use Rattle.runs.specs.Order.{LaunchOrder};
+ghost use Rattle.runs.specs.Mistakes.{MistakesShutOut};
+
+// Which calls are refused, with which number.
+fn refusals()
+    ensures { λ _. ⌜ Refusals step ⌝ }
+{}
+
+// Rules with one mistake in what they refuse break it.
+fn refusal_mistakes_shut_out()
+    ensures { λ _. ⌜ RefusalMistakesShutOut ⌝ }
+{}
+
+fn reached()
+    ensures { λ _. ⌜ Reached ⌝ }
+{}
+
+// The four empty programs break demand 2.
+fn empty_programs_shut_out()
+    ensures { λ _. ⌜ EmptyProgramsShutOut ⌝ }
+{}
+
+fn demand_3()
+    ensures { λ _. ⌜ Demand3 rules ⌝ }
+{}
+
+fn launch_order()
+    ensures { λ _. ⌜ LaunchOrder rules ⌝ }
+{}
+
+// Rules with one mistake in the translator break demand 3 or the order.
+fn mistakes_shut_out()
+    ensures { λ _. ⌜ MistakesShutOut ⌝ }
+{}
