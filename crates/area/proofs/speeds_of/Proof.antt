@@ -1,0 +1,15 @@
+use borrow.Author.Tests.{lt-ltb, le-ltb}
+use Rattle.area.proofs.speeds_of.Statement.{statement}
+use Rattle.area.proofs.speeds_of.Tie as tie
+
+returns : tie.Need-returns
+returns c = rw (lt-ltb _ 3 (c .if1 .taken))
+
+returns-2 : tie.Need-returns-2
+returns-2 c = rw (le-ltb _ 3 (c .before .if1 .left), lt-ltb _ 8 (c .if2 .taken))
+
+returns-3 : tie.Need-returns-3
+returns-3 c = rw (le-ltb _ 3 (c .before .if1 .left), le-ltb _ 8 (c .if2 .left))
+
+pub speeds-of-spec : {M : Type 1} → statement M
+speeds-of-spec = tie.close (tie.spec returns returns-2 returns-3)

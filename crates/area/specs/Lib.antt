@@ -1,0 +1,4 @@
+pub mod Rows
+pub mod Written
+pub mod Read
+pub mod Claims

@@ -1,0 +1,227 @@
+-- Runs of entries are runs of the rules, so that what holds of these holds of those. Assumes nothing.
+use Prim.Native.Nat.{ℕ, _≤_}
+use native.Mathlib.Omega.{arith}
+use mathlib.Core.Path.{_≡_, refl, sym, _∙_, ap, ap₂, subst}
+use mathlib.Core.Bool.{Bool, true, false, cond}
+use mathlib.Core.List.{List, [], _∷_, _++_, map}
+use lib.Dec.{eqb, leb}
+use lib.ListN.{length, take, drop}
+use lib.Seq.{take-all, take-append-seam}
+use borrow.Author.Tests.{leb-true}
+use Rattle.payload.specs.Payload as payload
+use Rattle.hub.specs.declared.Hub.{Hub}
+use Rattle.hub.specs.Call as hub
+use Rattle.hub.specs.Call.{Call, Control, Poll, Start, Complete, Launch, Deliver, Event as LineEvent, Tick, BusReset, Outcome, refuse}
+use Rattle.hub.specs.Step.{within, roomy, heard, fitting, served, firstRefusal, step}
+use Rattle.hub.specs.Valid.{ValidHub}
+use Rattle.hub.proofs.Order.{by-step}
+use Rattle.hub.proofs.Claimed.{hub-claims}
+use Rattle.runs.specs.History.{Event}
+use Rattle.runs.specs.Machine.{Machine, newHubOf, rules, runFrom, run, afterFrom}
+use Rattle.runs.specs.Demand2.{Demand2}
+use Rattle.runs.specs.Demand3.{SameCalls, SameAnswers, AllExplained, Demand3}
+use Rattle.runs.specs.Order.{AllOrdered, LaunchOrder}
+use Rattle.runs.specs.Refusals.{Refusal, numberOf}
+use Rattle.runs.proofs.Theorems.{demand-3}
+use Rattle.runs.proofs.LineSteps.{launch-order}
+use Rattle.runs.proofs.Refusing.{refusals}
+use Rattle.area.specs.Written.{written}
+use Rattle.area.specs.Read.{readOf}
+use Rattle.area.proofs.Exact.{area-exact}
+use Rattle.grimholdi.specs.Entry.{Gave, gaveBy}
+use Rattle.grimholdi.specs.Runs.{Asked, control, poll, startSplit, completeSplit, launch, deliver, lineEvent, tick, busReset, callOf, replyOf, gives, seen, NewArea, filled, entries, AreaFollows, EntryRefusals, EntryClaims}
+use Rattle.grimholdi.proofs.Ways.{taken-hub, entry-taken, entry-refused, new-made}
+
+-- ---- bytes in a reply space that has room for them
+
+drop-seam : (xs ys : List ℕ) → drop (length xs) (xs ++ ys) ≡ ys
+drop-seam [] ys = refl
+drop-seam (x ∷ xs) ys = drop-seam xs ys
+
+seen-is : (d r : List ℕ) → length d ≤ length r → take (length d) (payload.written d r) ≡ d
+unfolding payload.written
+seen-is d r l = rw (take-all (length r) d l, take-append-seam d (drop (length d) r))
+
+behind-is : (d r : List ℕ) → length d ≤ length r → drop (length d) (payload.written d r) ≡ drop (length d) r
+unfolding payload.written
+behind-is d r l = rw (take-all (length r) d l) (drop-seam d (drop (length d) r))
+
+none-written : (r : List ℕ) → payload.written [] r ≡ r
+unfolding payload.written
+none-written r = let l : length {A = ℕ} [] ≤ length r = omega arith in rw (take-all (length r) [] l)
+
+none-fits : (d r : List ℕ) → d ≡ [] → length d ≤ length r
+none-fits d r e = let z : length d ≡ 0 = ap length e in omega (arith, z)
+
+module _ (h : Hub) (v : ValidHub h) where
+  unroomy : (c : Call) → roomy c ≡ false → step h c .answer .bytes ≡ []
+  unfolding step
+  unroomy c p = go (within h c)
+    where
+      go : (w : Bool)
+          → cond {A = Outcome} (eqb (firstRefusal w (roomy c) (heard h c) (fitting h c)) 0) (served h c)
+          (refuse (firstRefusal w (roomy c) (heard h c) (fitting h c)) h) .answer .bytes ≡ []
+      go true = rw p
+      go false = refl
+
+  room-enough : (c : Call) (r : List ℕ) → roomy c ≡ leb 64 (length r) → length (step h c .answer .bytes) ≤ length r
+  room-enough c r e = go (leb 64 (length r)) refl
+    where
+      go : (b : Bool) → leb 64 (length r) ≡ b → length (step h c .answer .bytes) ≤ length r
+      go true p =
+          let most : length (step h c .answer .bytes) ≤ 64 = hub-claims .bytes-fit h v c in
+          let room : 64 ≤ length r = leb-true 64 (length r) p in
+          omega (arith, most, room)
+      go false p = none-fits (step h c .answer .bytes) r (unroomy c (e ∙ p))
+
+  none-given : (c : Call) → served h c .answer .bytes ≡ [] → step h c .answer .bytes ≡ []
+  none-given c e = by-step h c (λ (o : Outcome). o .answer .bytes ≡ []) (λ n. refl) (λ w f. e)
+
+  fits-reply : (x : Asked) → length (step h (callOf x) .answer .bytes) ≤ length (replyOf x)
+  unfolding roomy served
+  fits-reply (control s r) = room-enough (Control s (length r)) r refl
+  fits-reply (poll r) = room-enough (Poll (length r)) r refl
+  fits-reply (startSplit p t f g a e l) = none-fits _ [] (none-given (Start p t f g a e l) refl)
+  fits-reply (completeSplit a e d r) = room-enough (Complete a e d (length r)) r refl
+  fits-reply (launch r) = room-enough (Launch (length r)) r refl
+  fits-reply (deliver n l) = none-fits _ [] (none-given (Deliver n l) refl)
+  fits-reply (lineEvent e n) = none-fits _ [] (none-given (LineEvent e n) refl)
+  fits-reply tick = none-fits _ [] (none-given Tick refl)
+  fits-reply busReset = none-fits _ [] (none-given BusReset refl)
+
+  -- ---- one entry on the written form of a valid hub
+
+  gives-taken : (x : Asked) → gives (written h) x ≡ gaveBy (step h (callOf x)) (replyOf x)
+  gives-taken x = entry-taken (written h) (record { ok = true; hub = h }) (sym (area-exact .again h v)) refl (callOf x) (replyOf x)
+
+  abbrev with-bytes : hub.Answer → List ℕ → hub.Answer
+  with-bytes a b =
+      record {
+        number = a .number;
+        pid = a .pid;
+        transfer = a .transfer;
+        address = a .address;
+        endpoint = a .endpoint;
+        direction = a .direction;
+        lowspeed = a .lowspeed;
+        toggle = a .toggle;
+        bytes = b;
+      }
+
+  answer-same : (x : Asked) → seen (gives (written h) x) ≡ step h (callOf x) .answer
+  answer-same x =
+      let a = step h (callOf x) .answer in
+      ap seen (gives-taken x) ∙ ap (with-bytes a) (seen-is (a .bytes) (replyOf x) (fits-reply x))
+
+  next-same : (x : Asked) → gives (written h) x .area ≡ written (step h (callOf x) .next)
+  next-same x = ap (λ (g : Gave). g .area) (gives-taken x)
+
+-- ---- runs
+
+follows : (xs : List Asked) (h : Hub) → ValidHub h → runFrom entries (written h) xs ≡ runFrom rules h (map callOf xs)
+unfolding runFrom
+follows [] h v = refl
+follows (x ∷ xs) h v =
+    ap₂ (λ (e : Event) (es : List Event). e ∷ es)
+    (ap (λ (a : hub.Answer). record { call = callOf x; answer = a }) (answer-same h v x))
+    (ap (λ (a : List ℕ). runFrom entries a xs) (next-same h v x)
+    ∙ follows xs (step h (callOf x) .next) (hub-claims .step-valid h v (callOf x)))
+
+leaves : (xs : List Asked) (h : Hub) → ValidHub h → afterFrom entries (written h) xs ≡ written (afterFrom rules h (map callOf xs))
+unfolding afterFrom
+leaves [] h v = refl
+leaves (x ∷ xs) h v =
+    ap (λ (a : List ℕ). afterFrom entries a xs) (next-same h v x)
+    ∙ leaves xs (step h (callOf x) .next) (hub-claims .step-valid h v (callOf x))
+
+module _ (m : NewArea) where
+  new-hub : ValidHub (newHubOf (m .numbers))
+  new-hub =
+      let n = m .numbers in
+      hub-claims .new-valid (n .ports) (n .buffers) (n .powergood) (n .current) (n .removable) (n .fit)
+
+  filled-is : filled m ≡ written (newHubOf (m .numbers))
+  filled-is =
+      let n = m .numbers in
+      ap (λ (g : Gave). g .area) (new-made (m .memory) (n .ports) (n .buffers) (n .powergood) (n .current) (n .removable) (n .fit) (m .long))
+
+demand-2 : Demand2 entries
+demand-2 m xs = ap (λ (a : List ℕ). runFrom entries a xs) (filled-is m) ∙ follows xs (newHubOf (m .numbers)) (new-hub m)
+
+area-follows : AreaFollows
+area-follows m xs = ap (λ (a : List ℕ). afterFrom entries a xs) (filled-is m) ∙ leaves xs (newHubOf (m .numbers)) (new-hub m)
+
+-- a machine that keeps demand 2 keeps what the rules' runs keep
+module _ (w : Machine) (d : Demand2 w) where
+  abbrev ruled-run : w .Made → List (w .Asked) → List Event
+  ruled-run n cs = run rules (w .numbers n) (map (w .call) cs)
+
+  carried-3 : Demand3 w
+  carried-3 =
+      record {
+        mark-hidden = λ k n cs ds s.
+            subst (λ (x : List Event). SameAnswers k x (run w n ds)) (sym (d n cs))
+            (subst (λ (y : List Event). SameAnswers k (ruled-run n cs) y) (sym (d n ds))
+            (demand-3 .mark-hidden k (w .numbers n) (map (w .call) cs) (map (w .call) ds)
+            (subst (λ (y : List Event). SameCalls k [] (ruled-run n cs) y) (d n ds)
+            (subst (λ (x : List Event). SameCalls k [] x (run w n ds)) (d n cs) s))));
+        data-explained = λ n cs. subst (AllExplained []) (sym (d n cs)) (demand-3 .data-explained (w .numbers n) (map (w .call) cs));
+      }
+
+  carried-order : LaunchOrder w
+  carried-order n cs = subst (AllOrdered []) (sym (d n cs)) (launch-order (w .numbers n) (map (w .call) cs))
+
+-- ---- refusals
+
+module _ (a : List ℕ) (x : Asked) where
+  as-it-was : (r : Refusal) → gives a x .answer .number ≡ numberOf r → (gives a x .area ≡ a) × (gives a x .reply ≡ replyOf x)
+  as-it-was r e = go (readOf a .ok) refl
+    where
+      go : (b : Bool) → readOf a .ok ≡ b → (gives a x .area ≡ a) × (gives a x .reply ≡ replyOf x)
+      go true p =
+          let h = readOf a .hub in
+          let t = taken-hub a (readOf a) refl p in
+          let g = entry-taken a (readOf a) refl p (callOf x) (replyOf x) in
+          let u = refusals .unchanged r h (callOf x) (t .0) (sym (ap (λ (y : Gave). y .answer .number) g) ∙ e) in (
+            ap (λ (y : Gave). y .area) g ∙ ap written (u .0) ∙ sym (t .1),
+            ap (λ (y : Gave). y .reply) g ∙ ap (λ (d : List ℕ). payload.written d (replyOf x)) (u .1) ∙ none-written (replyOf x),
+          )
+      go false p =
+          let g = entry-refused a (readOf a) refl p (callOf x) (replyOf x) in
+          (ap (λ (y : Gave). y .area) g, ap (λ (y : Gave). y .reply) g)
+
+  abbrev Behind : Gave → Type 0
+  Behind g = drop (g .answer .length) (g .reply) ≡ drop (g .answer .length) (replyOf x)
+
+  behind : Behind (gives a x)
+  behind = go (readOf a .ok) refl
+    where
+      go : (b : Bool) → readOf a .ok ≡ b → Behind (gives a x)
+      go true p =
+          let h = readOf a .hub in
+          let t = taken-hub a (readOf a) refl p in
+          subst Behind (sym (entry-taken a (readOf a) refl p (callOf x) (replyOf x)))
+          (behind-is (step h (callOf x) .answer .bytes) (replyOf x) (fits-reply h (t .0) x))
+      go false p = subst Behind (sym (entry-refused a (readOf a) refl p (callOf x) (replyOf x))) refl
+
+entry-refusals : EntryRefusals
+entry-refusals =
+    record {
+      bad-area = λ a x n. entry-refused a (readOf a) refl (area-exact .refused a .1 n) (callOf x) (replyOf x);
+      exactly = λ r h x v.
+          let q = ap (λ (g : Gave). g .answer .number) (gives-taken h v x) in
+          let due = refusals .exactly r h (callOf x) v in
+          (λ e. due .0 (sym q ∙ e), λ e. q ∙ due .1 e);
+      unchanged = λ r a x e. as-it-was a x r e;
+      behind = behind;
+    }
+
+pub entry-claims : EntryClaims
+entry-claims =
+    record {
+      refusals = entry-refusals;
+      demand-2 = demand-2;
+      area-follows = area-follows;
+      demand-3 = carried-3 entries demand-2;
+      launch-order = carried-order entries demand-2;
+    }

@@ -1,0 +1,437 @@
+/*
+ * grimholdi.h - a USB 2.0 hub controller and transaction translator
+ *
+ * The hub has 1 to 7 downstream ports and one translator with 2 to 4 buffers
+ * for bulk and control split transactions.  The firmware hands over finished
+ * events, setup packets and payloads as numbers and bytes.  Each call returns
+ * one answer.
+ *
+ * The area
+ *
+ *   The caller keeps the hub in an area of bytes and lends it to each call.
+ *   grimholdi_area_length gives its length, grimholdi_new writes a new hub
+ *   into it, and every other call takes the area as the last call left it.
+ *   The area needs no alignment and may be copied, stored and restored.  The
+ *   library keeps nothing outside it.  docs/AREA.md gives its layout.
+ *
+ *   Each call but grimholdi_new tests the whole area first.  An area of the
+ *   wrong length, or with bytes that are not the written form of a permitted
+ *   hub, is refused with GRIMHOLDI_OUTSIDE.  What the calls themselves leave
+ *   is always taken.
+ *
+ * The order of checks
+ *
+ *   Where several answers apply, the first of this list is given:
+ *
+ *     1. GRIMHOLDI_OUTSIDE    the area, a number or a length is outside the
+ *                             rules
+ *     2. GRIMHOLDI_NO_SPACE   the call takes reply space and reply_len is
+ *                             below GRIMHOLDI_REPLY_LENGTH, even if the call
+ *                             would write nothing
+ *     3. GRIMHOLDI_SILENT     the hub is unconfigured
+ *     4. GRIMHOLDI_NOT_NOW    not in this state
+ *     5. the rest, as each call below says
+ *
+ *   Each call lists its answers in this order.  It gives no others.
+ *
+ * What a call leaves
+ *
+ *   Answers 2 to 8 are refusals: the area and the reply space keep every byte.
+ *   GRIMHOLDI_DATA writes the first `length` bytes of the reply space and
+ *   keeps the rest.  GRIMHOLDI_DONE and GRIMHOLDI_HANDSHAKE write nothing but
+ *   the area.  Polls and Get requests leave the area as it is.  Setup bytes
+ *   and payloads are only read.
+ *
+ * What nothing can check
+ *
+ *   Each pointer must hold as many bytes as its length says, and the area and
+ *   the reply space must be writable.  (NULL, 0) is an empty slice; it is
+ *   permitted for every pointer and length.  The area must overlap neither the
+ *   reply space nor the setup or payload bytes, and the reply space must not
+ *   overlap the setup bytes.  Two calls on one area must not run at the same
+ *   time; calls on different areas may.
+ */
+
+#ifndef GRIMHOLDI_H
+#define GRIMHOLDI_H
+
+#include <stddef.h>
+#include <stdint.h>
+
+#ifdef __cplusplus
+extern "C" {
+#endif
+
+/* Limits. */
+
+#define GRIMHOLDI_PORTS_MIN         1   /* ports are numbered from 1 */
+#define GRIMHOLDI_PORTS_MAX         7
+#define GRIMHOLDI_BUFFERS_MIN       2
+#define GRIMHOLDI_BUFFERS_MAX       4
+#define GRIMHOLDI_ADDRESS_MAX       127
+#define GRIMHOLDI_ENDPOINT_MAX      15
+#define GRIMHOLDI_PAYLOAD_MAX       64
+#define GRIMHOLDI_SETUP_LENGTH      8
+#define GRIMHOLDI_REPLY_LENGTH      64  /* least reply space */
+#define GRIMHOLDI_AREA_LENGTH_MAX   324 /* area of 7 ports and 4 buffers */
+#define GRIMHOLDI_RESET_TICKS       15  /* ticks that end a port reset */
+#define GRIMHOLDI_RESUME_TICKS      22  /* ticks that end a resume */
+
+/* Answers: the field `number`. */
+
+#define GRIMHOLDI_DONE              0   /* done (ACK) */
+#define GRIMHOLDI_DATA              1   /* `length` bytes in the reply space */
+#define GRIMHOLDI_STALL             2   /* STALL */
+#define GRIMHOLDI_NAK               3   /* nothing to give, or no buffer */
+#define GRIMHOLDI_NYET              4   /* NYET */
+#define GRIMHOLDI_SILENT            5   /* the hub is unconfigured */
+#define GRIMHOLDI_OUTSIDE           6   /* area, number or length refused */
+#define GRIMHOLDI_NO_SPACE          7   /* reply space under 64 bytes */
+#define GRIMHOLDI_NOT_NOW           8   /* not in this state */
+#define GRIMHOLDI_HANDSHAKE         9   /* the device's handshake, in `pid` */
+
+/* PIDs of start-splits and launched transactions. */
+
+#define GRIMHOLDI_PID_OUT           1
+#define GRIMHOLDI_PID_IN            9
+#define GRIMHOLDI_PID_SETUP         13
+
+/*
+ * Results of delivered transactions.  All but the failure are PIDs and also
+ * stand in `pid` of a complete-split's answer.
+ */
+
+#define GRIMHOLDI_RESULT_FAILURE    0   /* no valid reply from the device */
+#define GRIMHOLDI_RESULT_ACK        2
+#define GRIMHOLDI_RESULT_DATA0      3
+#define GRIMHOLDI_RESULT_NAK        10
+#define GRIMHOLDI_RESULT_DATA1      11
+#define GRIMHOLDI_RESULT_STALL      14
+
+/* Transfer types. */
+
+#define GRIMHOLDI_TRANSFER_CONTROL  0
+#define GRIMHOLDI_TRANSFER_BULK     2
+
+/* Directions.  A key is an address, an endpoint and a direction. */
+
+#define GRIMHOLDI_DIRECTION_OUT     0   /* PIDs OUT and SETUP */
+#define GRIMHOLDI_DIRECTION_IN      1   /* PID IN */
+
+/* Line events. */
+
+#define GRIMHOLDI_EVENT_ATTACH_LOW        0
+#define GRIMHOLDI_EVENT_ATTACH_FULL       1 /* high-speed devices too */
+#define GRIMHOLDI_EVENT_DETACH            2
+#define GRIMHOLDI_EVENT_CHIRP             3
+#define GRIMHOLDI_EVENT_WAKE              4
+#define GRIMHOLDI_EVENT_PORT_ERROR        5
+#define GRIMHOLDI_EVENT_OVER_CURRENT_ON   6
+#define GRIMHOLDI_EVENT_OVER_CURRENT_OFF  7
+
+/* Setup packets: bmRequestType (first byte) and bRequest (second byte). */
+
+#define GRIMHOLDI_TYPE_SET_CONFIGURATION     0x00
+#define GRIMHOLDI_TYPE_GET_CONFIGURATION     0x80
+#define GRIMHOLDI_TYPE_GET_HUB               0xA0 /* descriptor, status */
+#define GRIMHOLDI_TYPE_GET_PORT              0xA3
+#define GRIMHOLDI_TYPE_SET_HUB               0x20
+#define GRIMHOLDI_TYPE_SET_PORT              0x23 /* and the translator */
+
+#define GRIMHOLDI_REQUEST_GET_STATUS         0x00
+#define GRIMHOLDI_REQUEST_CLEAR_FEATURE      0x01
+#define GRIMHOLDI_REQUEST_SET_FEATURE        0x03
+#define GRIMHOLDI_REQUEST_GET_DESCRIPTOR     0x06
+#define GRIMHOLDI_REQUEST_GET_CONFIGURATION  0x08
+#define GRIMHOLDI_REQUEST_SET_CONFIGURATION  0x09
+#define GRIMHOLDI_REQUEST_CLEAR_TT_BUFFER    0x08
+#define GRIMHOLDI_REQUEST_RESET_TT           0x09
+
+#define GRIMHOLDI_HUB_DESCRIPTOR             0x2900 /* wValue */
+#define GRIMHOLDI_HUB_DESCRIPTOR_LENGTH      9
+
+/* Hub features: wValue of ClearHubFeature. */
+
+#define GRIMHOLDI_C_HUB_LOCAL_POWER     0
+#define GRIMHOLDI_C_HUB_OVER_CURRENT    1
+
+/* Port features: wValue of SetPortFeature and ClearPortFeature. */
+
+#define GRIMHOLDI_PORT_ENABLE           1
+#define GRIMHOLDI_PORT_SUSPEND          2
+#define GRIMHOLDI_PORT_RESET            4
+#define GRIMHOLDI_PORT_POWER            8
+#define GRIMHOLDI_C_PORT_CONNECTION     16
+#define GRIMHOLDI_C_PORT_ENABLE         17
+#define GRIMHOLDI_C_PORT_SUSPEND        18
+#define GRIMHOLDI_C_PORT_OVER_CURRENT   19
+#define GRIMHOLDI_C_PORT_RESET          20
+
+/* Status bits: first two bytes of GetPortStatus, little-endian. */
+
+#define GRIMHOLDI_STATUS_CONNECTION     0x0001
+#define GRIMHOLDI_STATUS_ENABLE         0x0002
+#define GRIMHOLDI_STATUS_SUSPEND        0x0004
+#define GRIMHOLDI_STATUS_OVER_CURRENT   0x0008
+#define GRIMHOLDI_STATUS_RESET          0x0010
+#define GRIMHOLDI_STATUS_POWER          0x0100
+#define GRIMHOLDI_STATUS_LOW_SPEED      0x0200
+#define GRIMHOLDI_STATUS_HIGH_SPEED     0x0400
+
+/* Change bits: last two bytes of GetPortStatus, little-endian. */
+
+#define GRIMHOLDI_CHANGE_CONNECTION     0x0001
+#define GRIMHOLDI_CHANGE_ENABLE         0x0002
+#define GRIMHOLDI_CHANGE_SUSPEND        0x0004
+#define GRIMHOLDI_CHANGE_OVER_CURRENT   0x0008
+#define GRIMHOLDI_CHANGE_RESET          0x0010
+
+/* wValue of ClearTTBuffer. */
+
+#define GRIMHOLDI_TT_ENDPOINT_SHIFT     0
+#define GRIMHOLDI_TT_ADDRESS_SHIFT      4
+#define GRIMHOLDI_TT_TRANSFER_SHIFT     11
+#define GRIMHOLDI_TT_DIRECTION_SHIFT    15
+
+/* What a call answers.  Fields that do not apply are 0. */
+
+typedef struct {
+    uint8_t number;    /* 0 to 9, see above */
+    uint8_t length;    /* GRIMHOLDI_DATA: bytes written to the reply space */
+    uint8_t pid;       /* complete-split: a result (not the failure);
+                          launch: a PID */
+    uint8_t transfer;  /* this and the following: launch only */
+    uint8_t address;
+    uint8_t endpoint;
+    uint8_t direction;
+    uint8_t low_speed; /* 0 or 1 */
+    uint8_t toggle;    /* 0 or 1 */
+} grimholdi_answer;
+
+/*
+ * The length of the area of a hub with that many ports and buffers, or 0 where
+ * a number is outside the rules.
+ */
+size_t grimholdi_area_length(uint32_t ports, uint32_t buffers);
+
+/*
+ * Writes a new hub into the area: unconfigured, no change bits, no
+ * over-current, all buffers empty, low side free.  What the area held before
+ * does not matter.
+ *
+ *   ports       1 to 7
+ *   buffers     2 to 4
+ *   power_good  0 to 255, time from power on to power good, in 2 ms
+ *   current     0 to 255, the hub's own current, in mA
+ *   removable   a byte with bit p for port p; bit 0 and the bits above the
+ *               last port are zero
+ *
+ * OUTSIDE  a number is outside the rules, or area_len is not
+ *          grimholdi_area_length(ports, buffers)
+ * DONE     the area holds the new hub
+ */
+grimholdi_answer grimholdi_new(uint8_t *area, size_t area_len,
+                               uint32_t ports, uint32_t buffers,
+                               uint32_t power_good, uint32_t current,
+                               uint32_t removable);
+
+/*
+ * A control request to the hub, as its eight setup bytes.
+ *
+ * OUTSIDE   the area is refused, or setup_len is not 8
+ * NO_SPACE  reply_len is below 64
+ * STALL     not one of the requests below with exactly these fields, all other
+ *           fields zero, or not served while the hub is unconfigured
+ * DATA      a Get request: the bytes asked for
+ * DONE      any other request
+ *
+ *   SetConfiguration   00 09  wValue 0 or 1; served while unconfigured.
+ *                             Empties the translator, stops the low side and
+ *                             keeps the change bits.  0: every port goes to
+ *                             Not Configured and over-current levels are
+ *                             dropped.  1: every port goes to Powered-off and
+ *                             over-current levels stay.
+ *   GetConfiguration   80 08  wLength 1; served while unconfigured.  One byte.
+ *   GetHubDescriptor   A0 06  wValue 2900h, any wLength; served while
+ *                             unconfigured.  Nine bytes cut to wLength:
+ *                             09 29 ports 09 00 power_good current removable
+ *                             FF.  wLength 0 is DATA with no bytes.
+ *   GetHubStatus       A0 00  wLength 4.  Four zeros.
+ *   GetPortStatus      A3 00  wIndex port, wLength 4.  Status bits, then
+ *                             change bits, two bytes each, little-endian.
+ *   ClearHubFeature    20 01  wValue 0 or 1.  No effect.
+ *   ClearPortFeature   23 01  wValue a feature, wIndex port.
+ *                             PORT_ENABLE: from any state but Powered-off and
+ *                             Disconnected to Disabled; the speed stays.
+ *                             PORT_SUSPEND: from Suspended to Resuming.
+ *                             PORT_POWER: to Powered-off; change bits stay.
+ *                             C_PORT_..: clears that change bit.
+ *   SetPortFeature     23 03  wValue a feature, wIndex port.
+ *                             PORT_SUSPEND: from Enabled to Suspended.
+ *                             PORT_RESET: from Disabled, Enabled, Suspended
+ *                             and Resuming to Resetting; high speed becomes
+ *                             full speed.  PORT_POWER: from Powered-off to
+ *                             Disconnected, unless over-current holds.
+ *   ClearTTBuffer      23 08  wIndex 1; wValue: endpoint bits 0 to 3, address
+ *                             4 to 10, transfer type 11 to 12, direction 15,
+ *                             others zero.  Empties the buffer of that key,
+ *                             whatever its type.  If that transaction is
+ *                             running, the low side stays occupied until the
+ *                             next delivery, which is thrown away.
+ *   ResetTT            23 09  wIndex 1.  Empties the translator and stops the
+ *                             low side.
+ *
+ * A port feature request that does not apply in the port's state is DONE with
+ * no effect.
+ */
+grimholdi_answer grimholdi_control(uint8_t *area, size_t area_len,
+                                   const uint8_t *setup, size_t setup_len,
+                                   uint8_t *reply, size_t reply_len);
+
+/*
+ * The status change bitmap.
+ *
+ * OUTSIDE   the area is refused
+ * NO_SPACE  reply_len is below 64
+ * SILENT    the hub is unconfigured
+ * NAK       no port has a change bit set
+ * DATA      one byte; bit p is 1 if port p has a change bit set, bit 0 is 0
+ */
+grimholdi_answer grimholdi_poll(uint8_t *area, size_t area_len,
+                                uint8_t *reply, size_t reply_len);
+
+/*
+ * Offers a transaction to the translator.
+ *
+ *   pid          OUT, IN or SETUP
+ *   transfer     control or bulk; SETUP is control
+ *   low_speed    0 or 1
+ *   toggle       0 or 1
+ *   address      0 to 127
+ *   endpoint     0 to 15
+ *   payload      OUT: 0 to 64 bytes; IN: none; SETUP: 8 bytes
+ *
+ * OUTSIDE  the area is refused, or a number or the payload's length is outside
+ *          the rules
+ * SILENT   the hub is unconfigured
+ * NAK      no buffer has this key, and none is empty or old
+ * DONE     A pending or ready buffer has this key: this is a repeat, and
+ *          nothing is stored, whatever its PID, type or payload.  Otherwise
+ *          the transaction is stored and pending: in the old buffer with this
+ *          key if there is one, else in the lowest-numbered empty or old one.
+ */
+grimholdi_answer grimholdi_start_split(uint8_t *area, size_t area_len,
+                                       uint32_t pid, uint32_t transfer,
+                                       uint32_t low_speed, uint32_t toggle,
+                                       uint32_t address, uint32_t endpoint,
+                                       const uint8_t *payload,
+                                       size_t payload_len);
+
+/*
+ * Asks for the result of the transaction with this key.
+ *
+ *   address      0 to 127
+ *   endpoint     0 to 15
+ *   direction    OUT or IN
+ *
+ * OUTSIDE    the area is refused, or a number is outside the rules
+ * NO_SPACE   reply_len is below 64
+ * SILENT     the hub is unconfigured
+ * STALL      no buffer has this key
+ * NYET       the buffer with this key is pending
+ * DATA       the bytes delivered, `pid` DATA0 or DATA1; the buffer is old
+ * HANDSHAKE  `pid` is ACK, NAK or STALL; STALL also stands for a failure; the
+ *            buffer is old
+ *
+ * An old buffer gives its result again until it is used for another
+ * transaction or emptied.
+ */
+grimholdi_answer grimholdi_complete_split(uint8_t *area, size_t area_len,
+                                          uint32_t address, uint32_t endpoint,
+                                          uint32_t direction,
+                                          uint8_t *reply, size_t reply_len);
+
+/*
+ * Takes the next transaction to run on the low side.
+ *
+ * OUTSIDE   the area is refused
+ * NO_SPACE  reply_len is below 64
+ * SILENT    the hub is unconfigured
+ * NOT_NOW   the low side is occupied
+ * NAK       no transaction is pending
+ * DATA      the pending transaction stored earliest: its payload as data, its
+ *           PID, type, key, low-speed flag and toggle in the answer.  It
+ *           occupies the low side and stays pending.
+ */
+grimholdi_answer grimholdi_launch(uint8_t *area, size_t area_len,
+                                  uint8_t *reply, size_t reply_len);
+
+/*
+ * Gives the running transaction its result.
+ *
+ *   result       DATA0 or DATA1 with 0 to 64 payload bytes; ACK, NAK, STALL or
+ *                FAILURE with none
+ *
+ * OUTSIDE  the area is refused, or the result or the payload's length is
+ *          outside the rules
+ * SILENT   the hub is unconfigured
+ * NOT_NOW  the low side is free, or the result does not suit the running
+ *          transaction's PID.  IN: DATA0, DATA1, NAK, STALL, FAILURE.
+ *          OUT: ACK, NAK, STALL, FAILURE.  SETUP: ACK, FAILURE.
+ * DONE     the transaction's buffer is ready and the low side is free.  If the
+ *          running transaction was cleared by ClearTTBuffer, the result is
+ *          thrown away, whatever it is, and the low side is free.
+ */
+grimholdi_answer grimholdi_deliver(uint8_t *area, size_t area_len,
+                                   uint32_t result,
+                                   const uint8_t *payload, size_t payload_len);
+
+/*
+ * A finished event on the lines of one port.
+ *
+ *   event        attach low or full: from Disconnected to Disabled, sets
+ *                  C_PORT_CONNECTION
+ *                detach: from Disabled, Enabled and Suspended to Disconnected,
+ *                  sets C_PORT_CONNECTION
+ *                chirp: in Resetting at full speed, makes it high speed
+ *                wake: from Suspended to Resuming
+ *                port error: from Enabled to Disabled; the speed stays
+ *                over-current on: from any configured state to Powered-off,
+ *                  sets C_PORT_OVER_CURRENT; no effect if it is on
+ *                over-current off: in any configured state, sets
+ *                  C_PORT_OVER_CURRENT; no effect if it is off
+ *   port         1 to the hub's number of ports
+ *
+ * An event that ends PORT_ENABLE also sets C_PORT_ENABLE.
+ *
+ * OUTSIDE  the area is refused, or a number is outside the rules
+ * NOT_NOW  the hub is unconfigured, or the port is in another state
+ * DONE     the event took place, or the over-current level is the same
+ */
+grimholdi_answer grimholdi_line_event(uint8_t *area, size_t area_len,
+                                      uint32_t event, uint32_t port);
+
+/*
+ * One millisecond has passed on all ports.  The 15th tick in Resetting gives
+ * Enabled and sets C_PORT_RESET; the 22nd in Resuming gives Enabled and sets
+ * C_PORT_SUSPEND.
+ *
+ * OUTSIDE  the area is refused
+ * DONE     otherwise; no effect while the hub is unconfigured
+ */
+grimholdi_answer grimholdi_tick(uint8_t *area, size_t area_len);
+
+/*
+ * A reset on the upstream bus.  The area holds the new hub again, with the
+ * numbers given to grimholdi_new.
+ *
+ * OUTSIDE  the area is refused
+ * DONE     otherwise
+ */
+grimholdi_answer grimholdi_bus_reset(uint8_t *area, size_t area_len);
+
+#ifdef __cplusplus
+}
+#endif
+
+#endif

@@ -1,0 +1,403 @@
+/* Lengths, new hubs, and areas that are refused or taken. */
+
+#include "bench_hub.h"
+
+/* The layout of the area of a hub with 2 ports and 3 buffers, docs/AREA.md. */
+enum {
+    PORT_1 = 8, PORT_2 = 12,
+    BUFFER_0 = 16, BUFFER_1 = 88, BUFFER_2 = 160,
+    LENGTH = 232
+};
+
+/* Whether each call refuses the area with OUTSIDE and keeps its bytes. */
+static int all_refuse(uint8_t *bytes, size_t length)
+{
+    static const uint8_t setup[8] = {GRIMHOLDI_TYPE_GET_CONFIGURATION,
+                                     GRIMHOLDI_REQUEST_GET_CONFIGURATION,
+                                     0, 0, 0, 0, 1, 0};
+    uint8_t kept[GRIMHOLDI_AREA_LENGTH_MAX + 1];
+    grimholdi_answer answers[9];
+    int i;
+
+    if (length > 0)
+        memcpy(kept, bytes, length);
+    answers[0] = grimholdi_control(bytes, length, setup, 8, reply, 64);
+    answers[1] = grimholdi_poll(bytes, length, reply, 64);
+    answers[2] = grimholdi_start_split(bytes, length, GRIMHOLDI_PID_IN,
+                                       GRIMHOLDI_TRANSFER_BULK, 0, 0, 9, 1,
+                                       NULL, 0);
+    answers[3] = grimholdi_complete_split(bytes, length, 9, 1, 1, reply, 64);
+    answers[4] = grimholdi_launch(bytes, length, NULL, 0);
+    answers[5] = grimholdi_deliver(bytes, length, GRIMHOLDI_RESULT_NAK, NULL,
+                                   0);
+    answers[6] = grimholdi_line_event(bytes, length,
+                                      GRIMHOLDI_EVENT_OVER_CURRENT_ON, 1);
+    answers[7] = grimholdi_tick(bytes, length);
+    answers[8] = grimholdi_bus_reset(bytes, length);
+    for (i = 0; i < 9; i++)
+        if (answers[i].number != GRIMHOLDI_OUTSIDE || !is_bare(answers[i]))
+            return 0;
+    return length == 0 || memcmp(kept, bytes, length) == 0;
+}
+
+/* Whether the area is taken: GetConfiguration is served. */
+static int is_taken(void)
+{
+    return request(GRIMHOLDI_TYPE_GET_CONFIGURATION,
+                   GRIMHOLDI_REQUEST_GET_CONFIGURATION, 0, 0, 1).number
+           == GRIMHOLDI_DATA;
+}
+
+static int refused_with(size_t place, uint8_t value)
+{
+    uint8_t kept = area[place];
+    int refused;
+
+    area[place] = value;
+    refused = all_refuse(area, area_len);
+    area[place] = kept;
+    return refused;
+}
+
+static int taken_with(size_t place, uint8_t value)
+{
+    uint8_t kept = area[place];
+    int taken;
+
+    area[place] = value;
+    taken = is_taken();
+    area[place] = kept;
+    return taken;
+}
+
+/*
+ * 2 ports: Resetting after 3 ticks, Disconnected.  3 buffers: OUT to (5, 1)
+ * with "abc" running, IN from (6, 1) ready with "de", IN from (7, 1) pending.
+ */
+static void sample_hub(void)
+{
+    new_hub(2, 3);
+    CHECK(area_len == LENGTH);
+    CHECK(set_configuration(1) == GRIMHOLDI_DONE);
+    CHECK(set_feature(GRIMHOLDI_PORT_POWER, 1) == GRIMHOLDI_DONE);
+    CHECK(set_feature(GRIMHOLDI_PORT_POWER, 2) == GRIMHOLDI_DONE);
+    CHECK(event(GRIMHOLDI_EVENT_ATTACH_FULL, 1) == GRIMHOLDI_DONE);
+    CHECK(set_feature(GRIMHOLDI_PORT_RESET, 1) == GRIMHOLDI_DONE);
+    ticks(3);
+    CHECK(start_out(4, 1, NULL, 0) == GRIMHOLDI_DONE);
+    CHECK(start_in(6, 1) == GRIMHOLDI_DONE);
+    CHECK(launch().address == 4);
+    CHECK(deliver(GRIMHOLDI_RESULT_NAK, NULL, 0) == GRIMHOLDI_DONE);
+    CHECK(launch().address == 6);
+    CHECK(deliver(GRIMHOLDI_RESULT_DATA1, (const uint8_t *)"de", 2)
+          == GRIMHOLDI_DONE);
+    CHECK(complete(4, 1, GRIMHOLDI_DIRECTION_OUT).number
+          == GRIMHOLDI_HANDSHAKE);
+    CHECK(start_out(5, 1, (const uint8_t *)"abc", 3) == GRIMHOLDI_DONE);
+    CHECK(start_in(7, 1) == GRIMHOLDI_DONE);
+    CHECK(launch().address == 5);
+}
+
+static void written_form(void)
+{
+    static const uint8_t head[] = {
+        2, 3, 0x32, 0x64, 0, 1, 1, 0,
+        4, 1, 3, 0x01,
+        2, 0, 0, 0x00,
+        1, 1, 2, 0, 5, 1, 0, 3, 'a', 'b', 'c', 0
+    };
+    static const uint8_t ready[] = {2, 9, 2, 0, 6, 1, 11, 2, 'd', 'e', 0};
+    static const uint8_t pending[] = {1, 9, 2, 0, 7, 1, 1, 0, 0};
+
+    sample_hub();
+    CHECK(memcmp(area, head, sizeof head) == 0);
+    CHECK(memcmp(area + BUFFER_1, ready, sizeof ready) == 0);
+    CHECK(memcmp(area + BUFFER_2, pending, sizeof pending) == 0);
+}
+
+/* The worked example of docs/AREA.md: bench case P12 before and after the delivery. */
+static void worked_example(void)
+{
+    static const uint8_t taken[] = {0x11, 0x22, 0x33};
+    uint8_t expected[168] = {
+        0x04, 0x02, 0x32, 0x64, 0x00, 0x01, 0x01, 0x00,
+        0x01, 0x00, 0x00, 0x00, 0x01, 0x00, 0x00, 0x00,
+        0x01, 0x00, 0x00, 0x00, 0x01, 0x00, 0x00, 0x00,
+        0x01, 0x09, 0x02, 0x00, 0x05, 0x01, 0x00, 0x00
+    };
+    static const uint8_t ready[] = {0x02, 0x09, 0x02, 0x00, 0x05, 0x01,
+                                    0x03, 0x03, 0x11, 0x22, 0x33};
+    static const uint8_t pending[] = {0x01, 0x09, 0x02, 0x00, 0x06, 0x01,
+                                      0x01, 0x00};
+
+    new_hub(4, 2);
+    CHECK(area_len == sizeof expected);
+    CHECK(set_configuration(1) == GRIMHOLDI_DONE);
+    CHECK(start_in(5, 1) == GRIMHOLDI_DONE);
+    CHECK(start_in(6, 1) == GRIMHOLDI_DONE);
+    CHECK(launch().address == 5);
+    memcpy(expected + 96, pending, sizeof pending);
+    CHECK(memcmp(area, expected, sizeof expected) == 0);
+    CHECK(deliver(GRIMHOLDI_RESULT_DATA0, taken, sizeof taken)
+          == GRIMHOLDI_DONE);
+    expected[6] = 0x00;
+    memcpy(expected + 24, ready, sizeof ready);
+    CHECK(memcmp(area, expected, sizeof expected) == 0);
+}
+
+static void lengths(void)
+{
+    uint32_t ports, buffers;
+
+    CHECK(grimholdi_area_length(7, 4) == GRIMHOLDI_AREA_LENGTH_MAX);
+    for (ports = 0; ports < 10; ports++)
+        for (buffers = 0; buffers < 7; buffers++) {
+            int known = ports >= 1 && ports <= 7 && buffers >= 2
+                        && buffers <= 4;
+
+            CHECK(grimholdi_area_length(ports, buffers)
+                  == (known ? 8 + 4 * ports + 72 * buffers : 0));
+        }
+    CHECK(grimholdi_area_length(FAR_NUMBER, 2) == 0);
+    CHECK(grimholdi_area_length(1, FAR_NUMBER) == 0);
+    CHECK(grimholdi_area_length(257, 258) == 0);
+}
+
+static int new_refused(size_t length, uint32_t ports, uint32_t buffers,
+                       uint32_t power_good, uint32_t current,
+                       uint32_t removable)
+{
+    uint8_t *bytes = length == 0 ? NULL : allocate(length);
+    grimholdi_answer answer = grimholdi_new(bytes, length, ports, buffers,
+                                            power_good, current, removable);
+    int kept = 1;
+    size_t i;
+
+    for (i = 0; i < length; i++)
+        kept = kept && bytes[i] == 0xEE;
+    free(bytes);
+    return kept && answer.number == GRIMHOLDI_OUTSIDE && is_bare(answer);
+}
+
+static void new_hubs(void)
+{
+    uint32_t ports, buffers;
+
+    for (ports = 1; ports <= 7; ports++)
+        for (buffers = 2; buffers <= 4; buffers++) {
+            uint32_t length = (uint32_t)grimholdi_area_length(ports, buffers);
+            uint32_t removable = (2u << ports) - 2;
+
+            new_hub(ports, buffers);
+            CHECK(is_taken());
+            CHECK(grimholdi_new(area, area_len, ports, buffers, 255, 255,
+                                removable).number == GRIMHOLDI_DONE);
+            CHECK(is_taken());
+            CHECK(new_refused(0, ports, buffers, 0, 0, 0));
+            CHECK(new_refused(length - 1, ports, buffers, 0, 0, 0));
+            CHECK(new_refused(length + 1, ports, buffers, 0, 0, 0));
+            CHECK(new_refused(length, ports, buffers, 256, 0, 0));
+            CHECK(new_refused(length, ports, buffers, FAR_NUMBER, 0, 0));
+            CHECK(new_refused(length, ports, buffers, 0, 256, 0));
+            CHECK(new_refused(length, ports, buffers, 0, FAR_NUMBER, 0));
+            CHECK(new_refused(length, ports, buffers, 0, 0, 1));
+            CHECK(new_refused(length, ports, buffers, 0, 0, 2u << ports));
+            CHECK(new_refused(length, ports, buffers, 0, 0, 256));
+            CHECK(new_refused(length, ports, buffers, 0, 0, FAR_NUMBER));
+            CHECK(new_refused(length, ports + 256, buffers, 0, 0, 0));
+            CHECK(new_refused(length, ports, buffers + 256, 0, 0, 0));
+        }
+    CHECK(new_refused(0, 0, 0, 0, 0, 0));
+    CHECK(new_refused(152, 0, 2, 0, 0, 0));
+    CHECK(new_refused(184, 8, 2, 0, 0, 0));
+    CHECK(new_refused(84, 1, 1, 0, 0, 0));
+    CHECK(new_refused(372, 1, 5, 0, 0, 0));
+    CHECK(new_refused(156, FAR_NUMBER, 2, 0, 0, 0));
+    CHECK(new_refused(156, 1, FAR_NUMBER, 0, 0, 0));
+}
+
+static void wrong_lengths(void)
+{
+    size_t length;
+
+    sample_hub();
+    for (length = 0; length <= LENGTH + 1; length++) {
+        uint8_t *copy;
+
+        if (length == LENGTH)
+            continue;
+        copy = allocate(length + (length == 0));
+        memcpy(copy, area, length < LENGTH ? length : LENGTH);
+        CHECK(all_refuse(copy, length));
+        free(copy);
+    }
+    CHECK(all_refuse(NULL, 0));
+}
+
+static void refused_headers(void)
+{
+    int value;
+
+    for (value = 0; value < 256; value++) {
+        CHECK(value == 2 || refused_with(0, (uint8_t)value));
+        CHECK(value == 3 || refused_with(1, (uint8_t)value));
+        CHECK(taken_with(2, (uint8_t)value));
+        CHECK(taken_with(3, (uint8_t)value));
+        CHECK((value & ~6) == 0 ? taken_with(4, (uint8_t)value)
+                                : refused_with(4, (uint8_t)value));
+        CHECK(value == 1 || refused_with(5, (uint8_t)value));
+        CHECK(value <= 2 ? taken_with(6, (uint8_t)value)
+                         : refused_with(6, (uint8_t)value));
+
+        /* Buffers 0 and 2 are pending, 1 is ready. */
+        CHECK(value == 0 || value == 2 ? taken_with(7, (uint8_t)value)
+                                       : refused_with(7, (uint8_t)value));
+    }
+
+    /* No running buffer is named unless one runs. */
+    area[7] = 2;
+    CHECK(refused_with(6, 0));
+    CHECK(refused_with(6, 2));
+    area[7] = 0;
+}
+
+static void refused_ports(void)
+{
+    int value;
+
+    for (value = 0; value < 256; value++) {
+        /* Only Resetting and Resuming have ticks. */
+        CHECK(value == 4 || value == 7
+              ? taken_with(PORT_1, (uint8_t)value)
+              : refused_with(PORT_1, (uint8_t)value));
+        CHECK(value <= 2 ? taken_with(PORT_1 + 1, (uint8_t)value)
+                         : refused_with(PORT_1 + 1, (uint8_t)value));
+        CHECK(value < 15 ? taken_with(PORT_1 + 2, (uint8_t)value)
+                         : refused_with(PORT_1 + 2, (uint8_t)value));
+        CHECK(value < 64 ? taken_with(PORT_1 + 3, (uint8_t)value)
+                         : refused_with(PORT_1 + 3, (uint8_t)value));
+
+        /* Disconnected has neither speed nor ticks. */
+        CHECK(value == 0 || refused_with(PORT_2 + 1, (uint8_t)value));
+        CHECK(value == 0 || refused_with(PORT_2 + 2, (uint8_t)value));
+    }
+    area[PORT_1] = 7;
+    CHECK(taken_with(PORT_1 + 2, 21));
+    CHECK(refused_with(PORT_1 + 2, 22));
+    area[PORT_1] = 4;
+}
+
+static void refused_buffers(void)
+{
+    int value;
+    int i;
+
+    for (value = 0; value < 256; value++) {
+        /* A ready buffer may be old; a pending one is only pending. */
+        CHECK(value == 1 || refused_with(BUFFER_0, (uint8_t)value));
+        CHECK(value == 2 || value == 3
+              ? taken_with(BUFFER_1, (uint8_t)value)
+              : refused_with(BUFFER_1, (uint8_t)value));
+
+        /* "abc" suits OUT only. */
+        CHECK(value == 1 || refused_with(BUFFER_0 + 1, (uint8_t)value));
+        CHECK(value == 0 || value == 2
+              ? taken_with(BUFFER_0 + 2, (uint8_t)value)
+              : refused_with(BUFFER_0 + 2, (uint8_t)value));
+        CHECK(value <= 3 ? taken_with(BUFFER_0 + 3, (uint8_t)value)
+                         : refused_with(BUFFER_0 + 3, (uint8_t)value));
+
+        /* Buffer 2 takes neither buffer 1's key nor buffer 0's place. */
+        CHECK(value <= 127 && value != 6
+              ? taken_with(BUFFER_2 + 4, (uint8_t)value)
+              : refused_with(BUFFER_2 + 4, (uint8_t)value));
+        CHECK(value <= 15 ? taken_with(BUFFER_2 + 5, (uint8_t)value)
+                          : refused_with(BUFFER_2 + 5, (uint8_t)value));
+        CHECK(value != 0 ? taken_with(BUFFER_2 + 6, (uint8_t)value)
+                         : refused_with(BUFFER_2 + 6, (uint8_t)value));
+
+        /* A result with two bytes is DATA0 or DATA1. */
+        CHECK(value == 3 || value == 11
+              ? taken_with(BUFFER_1 + 6, (uint8_t)value)
+              : refused_with(BUFFER_1 + 6, (uint8_t)value));
+
+        /* Bytes behind the length are zero. */
+        CHECK(value >= 3 && value <= 64
+              ? taken_with(BUFFER_0 + 7, (uint8_t)value)
+              : refused_with(BUFFER_0 + 7, (uint8_t)value));
+        CHECK(value >= 2 && value <= 64
+              ? taken_with(BUFFER_1 + 7, (uint8_t)value)
+              : refused_with(BUFFER_1 + 7, (uint8_t)value));
+        CHECK(value == 0 || refused_with(BUFFER_2 + 7, (uint8_t)value));
+    }
+    CHECK(taken_with(BUFFER_0 + 10, 0xFF));
+    for (i = 11; i < 72; i++)
+        CHECK(refused_with(BUFFER_0 + (size_t)i, 1));
+
+    /* An empty buffer is all zero. */
+    CHECK(clear_tt_buffer(6, 1, GRIMHOLDI_DIRECTION_IN) == GRIMHOLDI_DONE);
+    for (i = 0; i < 72; i++)
+        CHECK(refused_with(BUFFER_1 + (size_t)i, 1));
+}
+
+static void refused_setups(void)
+{
+    /* A pending SETUP is control and has 8 bytes. */
+    sample_hub();
+    area[BUFFER_0 + 1] = GRIMHOLDI_PID_SETUP;
+    area[BUFFER_0 + 2] = GRIMHOLDI_TRANSFER_CONTROL;
+    area[BUFFER_0 + 7] = 8;
+    CHECK(is_taken());
+    CHECK(refused_with(BUFFER_0 + 2, GRIMHOLDI_TRANSFER_BULK));
+    CHECK(refused_with(BUFFER_0 + 7, 7));
+    CHECK(refused_with(BUFFER_0 + 7, 9));
+}
+
+static void unconfigured_areas(void)
+{
+    /* An unconfigured hub has every port Not Configured. */
+    new_hub(2, 2);
+    CHECK(refused_with(PORT_1, 1));
+    CHECK(refused_with(PORT_2, 5));
+    CHECK(refused_with(5, 1));
+    CHECK(taken_with(PORT_1 + 3, 0x3F));
+    CHECK(taken_with(6, 2));
+}
+
+/* States that no calls reach are taken and follow the rules. */
+static void unreached_areas(void)
+{
+    sample_hub();
+
+    /* Port 2 is powered under over-current. */
+    area[PORT_2 + 3] = 0x20;
+    CHECK(event(GRIMHOLDI_EVENT_OVER_CURRENT_ON, 2) == GRIMHOLDI_DONE);
+    CHECK(status_is(2, "\x08\x01\x00\x00"));
+    CHECK(event(GRIMHOLDI_EVENT_ATTACH_LOW, 2) == GRIMHOLDI_DONE);
+
+    /* The running transaction is not the earliest. */
+    area[BUFFER_0 + 6] = 255;
+    area[BUFFER_2 + 6] = 254;
+    CHECK(deliver(GRIMHOLDI_RESULT_ACK, NULL, 0) == GRIMHOLDI_DONE);
+    CHECK(complete(5, 1, GRIMHOLDI_DIRECTION_OUT).pid == GRIMHOLDI_RESULT_ACK);
+    CHECK(start_in(8, 1) == GRIMHOLDI_DONE);
+    CHECK(area[BUFFER_0 + 6] == 1 && area[BUFFER_2 + 6] == 0);
+    CHECK(launch().address == 7);
+}
+
+int main(void)
+{
+    lengths();
+    new_hubs();
+    written_form();
+    worked_example();
+    wrong_lengths();
+    refused_headers();
+    refused_ports();
+    refused_buffers();
+    refused_setups();
+    unconfigured_areas();
+    unreached_areas();
+    free_hub();
+    return check_summary("area");
+}

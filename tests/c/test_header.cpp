@@ -1,0 +1,38 @@
+// The header in C++: it compiles, and its calls link.
+
+#include "grimholdi.h"
+
+#include "check.h"
+
+int main()
+{
+    uint8_t area[GRIMHOLDI_AREA_LENGTH_MAX];
+    uint8_t reply[GRIMHOLDI_REPLY_LENGTH];
+    const uint8_t configure[GRIMHOLDI_SETUP_LENGTH] = {
+        GRIMHOLDI_TYPE_SET_CONFIGURATION, GRIMHOLDI_REQUEST_SET_CONFIGURATION,
+        1, 0, 0, 0, 0, 0};
+    const size_t length = grimholdi_area_length(GRIMHOLDI_PORTS_MAX,
+                                                GRIMHOLDI_BUFFERS_MAX);
+
+    CHECK(sizeof(grimholdi_answer) == 9);
+    CHECK(length == sizeof area);
+    CHECK(grimholdi_new(area, length, 7, 4, 0, 0, 0).number == GRIMHOLDI_DONE);
+    CHECK(grimholdi_control(area, length, configure, sizeof configure, reply,
+                            sizeof reply).number == GRIMHOLDI_DONE);
+    CHECK(grimholdi_poll(area, length, reply, sizeof reply).number
+          == GRIMHOLDI_NAK);
+    CHECK(grimholdi_start_split(area, length, GRIMHOLDI_PID_IN,
+                                GRIMHOLDI_TRANSFER_BULK, 0, 0, 1, 1, nullptr,
+                                0).number == GRIMHOLDI_DONE);
+    CHECK(grimholdi_launch(area, length, reply, sizeof reply).number
+          == GRIMHOLDI_DATA);
+    CHECK(grimholdi_deliver(area, length, GRIMHOLDI_RESULT_DATA0, reply,
+                            3).number == GRIMHOLDI_DONE);
+    CHECK(grimholdi_complete_split(area, length, 1, 1, GRIMHOLDI_DIRECTION_IN,
+                                   reply, sizeof reply).length == 3);
+    CHECK(grimholdi_line_event(area, length, GRIMHOLDI_EVENT_WAKE, 1).number
+          == GRIMHOLDI_NOT_NOW);
+    CHECK(grimholdi_tick(area, length).number == GRIMHOLDI_DONE);
+    CHECK(grimholdi_bus_reset(area, length).number == GRIMHOLDI_DONE);
+    return check_summary("header in C++");
+}

@@ -1,0 +1,322 @@
+/* Each refusal of each call, and the order of checks. */
+
+#include "bench_hub.h"
+
+static uint8_t saved_area[GRIMHOLDI_AREA_LENGTH_MAX];
+static uint8_t saved_reply[GRIMHOLDI_REPLY_LENGTH];
+static const uint8_t *none = NULL;
+
+static void save(void)
+{
+    memcpy(saved_area, area, area_len);
+    memcpy(saved_reply, reply, sizeof saved_reply);
+}
+
+/* The answer is bare; area and reply space are as saved. */
+static int leaves_all(grimholdi_answer answer, uint8_t number)
+{
+    return answer.number == number && is_bare(answer)
+           && memcmp(saved_area, area, area_len) == 0
+           && memcmp(saved_reply, reply, sizeof saved_reply) == 0;
+}
+
+#define LEAVES_ALL(expected, call) \
+    (save(), CHECK(leaves_all((call), expected)))
+
+static void configured_hub(void)
+{
+    new_hub(4, 2);
+    CHECK(set_configuration(1) == GRIMHOLDI_DONE);
+}
+
+/* Short forms with the arguments that the checks vary. */
+
+static grimholdi_answer setup_of(size_t length, size_t reply_len)
+{
+    static const uint8_t setup[9] = {GRIMHOLDI_TYPE_GET_CONFIGURATION,
+                                     GRIMHOLDI_REQUEST_GET_CONFIGURATION,
+                                     0, 0, 0, 0, 1, 0, 0};
+
+    return grimholdi_control(area, area_len, length == 0 ? none : setup, length,
+                             reply_len == 0 ? NULL : reply, reply_len);
+}
+
+static grimholdi_answer start(uint32_t pid, uint32_t transfer,
+                              uint32_t low_speed, uint32_t toggle,
+                              uint32_t address, uint32_t endpoint,
+                              size_t length)
+{
+    uint8_t *payload = length == 0 ? NULL : allocate(length);
+    grimholdi_answer answer = grimholdi_start_split(area, area_len, pid,
+                                                    transfer, low_speed,
+                                                    toggle, address, endpoint,
+                                                    payload, length);
+
+    free(payload);
+    return answer;
+}
+
+static grimholdi_answer complete_in(uint32_t address, uint32_t endpoint,
+                                    uint32_t direction, size_t reply_len)
+{
+    return grimholdi_complete_split(area, area_len, address, endpoint,
+                                    direction, reply_len == 0 ? NULL : reply,
+                                    reply_len);
+}
+
+static grimholdi_answer result(uint32_t number, size_t length)
+{
+    uint8_t *payload = length == 0 ? NULL : allocate(length);
+    grimholdi_answer answer = grimholdi_deliver(area, area_len, number,
+                                                payload, length);
+
+    free(payload);
+    return answer;
+}
+
+static void control_refusals(void)
+{
+    static const struct {
+        uint8_t type, code;
+        uint16_t value, index, length;
+    } stalled[] = {
+        {0x00, 0x09, 2, 0, 0},      {0x00, 0x09, 0x0101, 0, 0},
+        {0x00, 0x09, 1, 1, 0},      {0x00, 0x09, 1, 0, 1},
+        {0x80, 0x08, 1, 0, 1},      {0x80, 0x08, 0, 1, 1},
+        {0x80, 0x08, 0, 0, 0},      {0x80, 0x08, 0, 0, 2},
+        {0x80, 0x08, 0, 0, 0x0101}, {0xA3, 0x00, 0, 1, 0x0104},
+        {0xA0, 0x06, 0x2901, 0, 9}, {0xA0, 0x06, 0x2800, 0, 9},
+        {0xA0, 0x06, 0x2900, 1, 9}, {0xA0, 0x00, 0, 0, 3},
+        {0xA0, 0x00, 1, 0, 4},      {0xA0, 0x00, 0, 1, 4},
+        {0xA3, 0x00, 0, 0, 4},      {0xA3, 0x00, 0, 5, 4},
+        {0xA3, 0x00, 0, 0x0101, 4}, {0xA3, 0x00, 0, 1, 5},
+        {0xA3, 0x00, 1, 1, 4},      {0x20, 0x01, 2, 0, 0},
+        {0x20, 0x01, 0, 1, 0},      {0x20, 0x01, 0, 0, 1},
+        {0x23, 0x01, 0, 1, 0},      {0x23, 0x01, 3, 1, 0},
+        {0x23, 0x01, 4, 1, 0},      {0x23, 0x01, 15, 1, 0},
+        {0x23, 0x01, 21, 1, 0},     {0x23, 0x01, 8, 0, 0},
+        {0x23, 0x01, 8, 5, 0},      {0x23, 0x01, 8, 0x0101, 0},
+        {0x23, 0x01, 8, 1, 1},      {0x23, 0x01, 0x0108, 1, 0},
+        {0x23, 0x03, 1, 1, 0},      {0x23, 0x03, 16, 1, 0},
+        {0x23, 0x03, 8, 0, 0},      {0x23, 0x03, 8, 5, 0},
+        {0x23, 0x03, 8, 0x0101, 0}, {0x23, 0x03, 8, 1, 1},
+        {0x23, 0x03, 0x0108, 1, 0}, {0x23, 0x08, 0x0800, 1, 0},
+        {0x23, 0x08, 0x1800, 1, 0}, {0x23, 0x08, 0x2000, 1, 0},
+        {0x23, 0x08, 0x4000, 1, 0}, {0x23, 0x08, 0, 0, 0},
+        {0x23, 0x08, 0, 2, 0},      {0x23, 0x08, 0, 1, 1},
+        {0x23, 0x09, 1, 1, 0},      {0x23, 0x09, 0, 0, 0},
+        {0x23, 0x09, 0, 2, 0},      {0x23, 0x09, 0, 1, 1},
+        {0x00, 0x05, 1, 0, 0},      {0x20, 0x03, 0, 0, 0},
+        {0x23, 0x0A, 0, 1, 4},      {0x23, 0x0B, 0, 1, 0},
+        {0xFF, 0xFF, 0xFFFF, 0xFFFF, 0xFFFF}
+    };
+    static const struct {
+        uint8_t type, code;
+        uint16_t value, index, length;
+    } configured_only[] = {
+        {0xA0, 0x00, 0, 0, 4}, {0xA3, 0x00, 0, 1, 4}, {0x20, 0x01, 0, 0, 0},
+        {0x23, 0x01, 8, 1, 0}, {0x23, 0x03, 8, 1, 0}, {0x23, 0x08, 0, 1, 0},
+        {0x23, 0x09, 0, 1, 0}
+    };
+    size_t i;
+
+    configured_hub();
+    CHECK(start_in(5, 1) == GRIMHOLDI_DONE);
+    for (i = 0; i < sizeof stalled / sizeof *stalled; i++)
+        LEAVES_ALL(GRIMHOLDI_STALL,
+                request(stalled[i].type, stalled[i].code, stalled[i].value,
+                        stalled[i].index, stalled[i].length));
+    LEAVES_ALL(GRIMHOLDI_OUTSIDE, setup_of(0, 64));
+    LEAVES_ALL(GRIMHOLDI_OUTSIDE, setup_of(7, 64));
+    LEAVES_ALL(GRIMHOLDI_OUTSIDE, setup_of(9, 64));
+    LEAVES_ALL(GRIMHOLDI_NO_SPACE, setup_of(8, 63));
+    LEAVES_ALL(GRIMHOLDI_NO_SPACE, setup_of(8, 0));
+    LEAVES_ALL(GRIMHOLDI_OUTSIDE, setup_of(7, 0));
+
+    new_hub(4, 2);
+    for (i = 0; i < sizeof configured_only / sizeof *configured_only; i++)
+        LEAVES_ALL(GRIMHOLDI_STALL,
+                request(configured_only[i].type, configured_only[i].code,
+                        configured_only[i].value, configured_only[i].index,
+                        configured_only[i].length));
+    LEAVES_ALL(GRIMHOLDI_NO_SPACE, setup_of(8, 63));
+}
+
+static void poll_refusals(void)
+{
+    new_hub(4, 2);
+    LEAVES_ALL(GRIMHOLDI_SILENT, poll());
+    LEAVES_ALL(GRIMHOLDI_NO_SPACE, grimholdi_poll(area, area_len, reply, 63));
+    LEAVES_ALL(GRIMHOLDI_NO_SPACE, grimholdi_poll(area, area_len, NULL, 0));
+    configured_hub();
+    LEAVES_ALL(GRIMHOLDI_NAK, poll());
+    LEAVES_ALL(GRIMHOLDI_NO_SPACE, grimholdi_poll(area, area_len, reply, 63));
+}
+
+static void start_split_numbers(void)
+{
+    LEAVES_ALL(GRIMHOLDI_OUTSIDE, start(0, 2, 0, 0, 5, 1, 0));
+    LEAVES_ALL(GRIMHOLDI_OUTSIDE, start(2, 2, 0, 0, 5, 1, 0));
+    LEAVES_ALL(GRIMHOLDI_OUTSIDE, start(265, 2, 0, 0, 5, 1, 0));
+    LEAVES_ALL(GRIMHOLDI_OUTSIDE, start(FAR_NUMBER, 2, 0, 0, 5, 1, 0));
+    LEAVES_ALL(GRIMHOLDI_OUTSIDE, start(9, 1, 0, 0, 5, 1, 0));
+    LEAVES_ALL(GRIMHOLDI_OUTSIDE, start(9, 3, 0, 0, 5, 1, 0));
+    LEAVES_ALL(GRIMHOLDI_OUTSIDE, start(9, 256, 0, 0, 5, 1, 0));
+    LEAVES_ALL(GRIMHOLDI_OUTSIDE, start(9, FAR_NUMBER, 0, 0, 5, 1, 0));
+    LEAVES_ALL(GRIMHOLDI_OUTSIDE, start(9, 2, 2, 0, 5, 1, 0));
+    LEAVES_ALL(GRIMHOLDI_OUTSIDE, start(9, 2, FAR_NUMBER, 0, 5, 1, 0));
+    LEAVES_ALL(GRIMHOLDI_OUTSIDE, start(9, 2, 0, 2, 5, 1, 0));
+    LEAVES_ALL(GRIMHOLDI_OUTSIDE, start(9, 2, 0, FAR_NUMBER, 5, 1, 0));
+    LEAVES_ALL(GRIMHOLDI_OUTSIDE, start(9, 2, 0, 0, 128, 1, 0));
+    LEAVES_ALL(GRIMHOLDI_OUTSIDE, start(9, 2, 0, 0, 256, 1, 0));
+    LEAVES_ALL(GRIMHOLDI_OUTSIDE, start(9, 2, 0, 0, FAR_NUMBER, 1, 0));
+    LEAVES_ALL(GRIMHOLDI_OUTSIDE, start(9, 2, 0, 0, 5, 16, 0));
+    LEAVES_ALL(GRIMHOLDI_OUTSIDE, start(9, 2, 0, 0, 5, FAR_NUMBER, 0));
+    LEAVES_ALL(GRIMHOLDI_OUTSIDE, start(9, 2, 0, 0, 5, 1, 1));
+    LEAVES_ALL(GRIMHOLDI_OUTSIDE, start(1, 2, 0, 0, 5, 1, 65));
+    LEAVES_ALL(GRIMHOLDI_OUTSIDE, start(1, 2, 0, 0, 5, 1, 256));
+    LEAVES_ALL(GRIMHOLDI_OUTSIDE, start(13, 0, 0, 0, 5, 1, 7));
+    LEAVES_ALL(GRIMHOLDI_OUTSIDE, start(13, 0, 0, 0, 5, 1, 9));
+    LEAVES_ALL(GRIMHOLDI_OUTSIDE, start(13, 0, 0, 0, 5, 1, 264));
+    LEAVES_ALL(GRIMHOLDI_OUTSIDE, start(13, 2, 0, 0, 5, 1, 8));
+}
+
+static void start_split_refusals(void)
+{
+    new_hub(4, 2);
+    start_split_numbers();
+    LEAVES_ALL(GRIMHOLDI_SILENT, start(9, 2, 0, 0, 5, 1, 0));
+    configured_hub();
+    start_split_numbers();
+    CHECK(start(1, 2, 0, 0, 127, 15, 64).number == GRIMHOLDI_DONE);
+    CHECK(start(1, 0, 1, 1, 0, 0, 0).number == GRIMHOLDI_DONE);
+    start_split_numbers();
+    LEAVES_ALL(GRIMHOLDI_NAK, start(9, 2, 0, 0, 5, 1, 0));
+    LEAVES_ALL(GRIMHOLDI_DONE, start(1, 2, 0, 0, 127, 15, 3));
+}
+
+static void complete_split_refusals(void)
+{
+    new_hub(4, 2);
+    LEAVES_ALL(GRIMHOLDI_OUTSIDE, complete_in(128, 1, 1, 0));
+    LEAVES_ALL(GRIMHOLDI_NO_SPACE, complete_in(5, 1, 1, 63));
+    LEAVES_ALL(GRIMHOLDI_NO_SPACE, complete_in(5, 1, 1, 0));
+    LEAVES_ALL(GRIMHOLDI_SILENT, complete_in(5, 1, 1, 64));
+    configured_hub();
+    LEAVES_ALL(GRIMHOLDI_OUTSIDE, complete_in(128, 1, 1, 64));
+    LEAVES_ALL(GRIMHOLDI_OUTSIDE, complete_in(FAR_NUMBER, 1, 1, 64));
+    LEAVES_ALL(GRIMHOLDI_OUTSIDE, complete_in(5, 16, 1, 64));
+    LEAVES_ALL(GRIMHOLDI_OUTSIDE, complete_in(5, FAR_NUMBER, 1, 64));
+    LEAVES_ALL(GRIMHOLDI_OUTSIDE, complete_in(5, 1, 2, 64));
+    LEAVES_ALL(GRIMHOLDI_OUTSIDE, complete_in(5, 1, FAR_NUMBER, 63));
+    LEAVES_ALL(GRIMHOLDI_STALL, complete_in(5, 1, 1, 64));
+    CHECK(start_in(5, 1) == GRIMHOLDI_DONE);
+    LEAVES_ALL(GRIMHOLDI_NYET, complete_in(5, 1, 1, 64));
+    LEAVES_ALL(GRIMHOLDI_NO_SPACE, complete_in(5, 1, 1, 63));
+    LEAVES_ALL(GRIMHOLDI_STALL, complete_in(5, 1, 0, 64));
+}
+
+static void launch_refusals(void)
+{
+    new_hub(4, 2);
+    LEAVES_ALL(GRIMHOLDI_NO_SPACE, grimholdi_launch(area, area_len, reply, 63));
+    LEAVES_ALL(GRIMHOLDI_SILENT, launch());
+    configured_hub();
+    LEAVES_ALL(GRIMHOLDI_NAK, launch());
+    CHECK(start_in(5, 1) == GRIMHOLDI_DONE);
+    LEAVES_ALL(GRIMHOLDI_NO_SPACE, grimholdi_launch(area, area_len, NULL, 0));
+    CHECK(launch().number == GRIMHOLDI_DATA);
+    LEAVES_ALL(GRIMHOLDI_NOT_NOW, launch());
+    LEAVES_ALL(GRIMHOLDI_NO_SPACE, grimholdi_launch(area, area_len, reply, 63));
+}
+
+static void deliver_numbers(void)
+{
+    static const uint32_t without_data[] = {0, 2, 10, 14};
+    size_t i;
+
+    LEAVES_ALL(GRIMHOLDI_OUTSIDE, result(1, 0));
+    LEAVES_ALL(GRIMHOLDI_OUTSIDE, result(4, 0));
+    LEAVES_ALL(GRIMHOLDI_OUTSIDE, result(9, 0));
+    LEAVES_ALL(GRIMHOLDI_OUTSIDE, result(256, 0));
+    LEAVES_ALL(GRIMHOLDI_OUTSIDE, result(259, 0));
+    LEAVES_ALL(GRIMHOLDI_OUTSIDE, result(FAR_NUMBER, 0));
+    LEAVES_ALL(GRIMHOLDI_OUTSIDE, result(3, 65));
+    LEAVES_ALL(GRIMHOLDI_OUTSIDE, result(11, 256));
+    for (i = 0; i < sizeof without_data / sizeof *without_data; i++) {
+        LEAVES_ALL(GRIMHOLDI_OUTSIDE, result(without_data[i], 1));
+        LEAVES_ALL(GRIMHOLDI_OUTSIDE, result(without_data[i], 256));
+    }
+}
+
+static void deliver_refusals(void)
+{
+    new_hub(4, 2);
+    deliver_numbers();
+    LEAVES_ALL(GRIMHOLDI_SILENT, result(10, 0));
+    configured_hub();
+    deliver_numbers();
+    LEAVES_ALL(GRIMHOLDI_NOT_NOW, result(10, 0));
+
+    CHECK(start_in(5, 1) == GRIMHOLDI_DONE);
+    CHECK(launch().number == GRIMHOLDI_DATA);
+    deliver_numbers();
+    LEAVES_ALL(GRIMHOLDI_NOT_NOW, result(2, 0));
+    CHECK(result(3, 64).number == GRIMHOLDI_DONE);
+
+    CHECK(start_out(5, 1, none, 0) == GRIMHOLDI_DONE);
+    CHECK(launch().number == GRIMHOLDI_DATA);
+    LEAVES_ALL(GRIMHOLDI_NOT_NOW, result(3, 0));
+    LEAVES_ALL(GRIMHOLDI_NOT_NOW, result(11, 64));
+    CHECK(result(14, 0).number == GRIMHOLDI_DONE);
+
+    configured_hub();
+    CHECK(start(13, 0, 0, 0, 5, 0, 8).number == GRIMHOLDI_DONE);
+    CHECK(launch().number == GRIMHOLDI_DATA);
+    LEAVES_ALL(GRIMHOLDI_NOT_NOW, result(3, 0));
+    LEAVES_ALL(GRIMHOLDI_NOT_NOW, result(11, 0));
+    LEAVES_ALL(GRIMHOLDI_NOT_NOW, result(10, 0));
+    LEAVES_ALL(GRIMHOLDI_NOT_NOW, result(14, 0));
+    CHECK(result(2, 0).number == GRIMHOLDI_DONE);
+}
+
+static grimholdi_answer line_event(uint32_t number, uint32_t port)
+{
+    return grimholdi_line_event(area, area_len, number, port);
+}
+
+static void line_event_refusals(void)
+{
+    uint32_t number;
+
+    new_hub(4, 2);
+    LEAVES_ALL(GRIMHOLDI_OUTSIDE, line_event(8, 1));
+    LEAVES_ALL(GRIMHOLDI_OUTSIDE, line_event(0, 0));
+    LEAVES_ALL(GRIMHOLDI_OUTSIDE, line_event(0, 5));
+    for (number = 0; number < 8; number++)
+        LEAVES_ALL(GRIMHOLDI_NOT_NOW, line_event(number, 1));
+    configured_hub();
+    LEAVES_ALL(GRIMHOLDI_OUTSIDE, line_event(8, 1));
+    LEAVES_ALL(GRIMHOLDI_OUTSIDE, line_event(256 + 6, 1));
+    LEAVES_ALL(GRIMHOLDI_OUTSIDE, line_event(FAR_NUMBER, 1));
+    LEAVES_ALL(GRIMHOLDI_OUTSIDE, line_event(6, 0));
+    LEAVES_ALL(GRIMHOLDI_OUTSIDE, line_event(6, 5));
+    LEAVES_ALL(GRIMHOLDI_OUTSIDE, line_event(6, 256 + 1));
+    LEAVES_ALL(GRIMHOLDI_OUTSIDE, line_event(6, FAR_NUMBER));
+    for (number = 0; number < 6; number++)
+        LEAVES_ALL(GRIMHOLDI_NOT_NOW, line_event(number, 1));
+    LEAVES_ALL(GRIMHOLDI_DONE, line_event(7, 1));
+}
+
+int main(void)
+{
+    control_refusals();
+    poll_refusals();
+    start_split_refusals();
+    complete_split_refusals();
+    launch_refusals();
+    deliver_refusals();
+    line_event_refusals();
+    free_hub();
+    return check_summary("refusals");
+}

@@ -1,0 +1,47 @@
+/*
+ * The calls of grimholdi.h as inplace.c defines them: under inplace_ names, or
+ * under the library's own names if INPLACE_AS_LIBRARY is defined.
+ */
+
+#ifndef INPLACE_H
+#define INPLACE_H
+
+#include "grimholdi.h"
+
+#ifdef INPLACE_AS_LIBRARY
+#define INPLACE(name) grimholdi_##name
+#else
+#define INPLACE(name) inplace_##name
+#endif
+
+size_t INPLACE(area_length)(uint32_t ports, uint32_t buffers);
+grimholdi_answer INPLACE(new)(uint8_t *area, size_t area_len,
+                              uint32_t ports, uint32_t buffers,
+                              uint32_t power_good, uint32_t current,
+                              uint32_t removable);
+grimholdi_answer INPLACE(control)(uint8_t *area, size_t area_len,
+                                  const uint8_t *setup, size_t setup_len,
+                                  uint8_t *reply, size_t reply_len);
+grimholdi_answer INPLACE(poll)(uint8_t *area, size_t area_len,
+                               uint8_t *reply, size_t reply_len);
+grimholdi_answer INPLACE(start_split)(uint8_t *area, size_t area_len,
+                                      uint32_t pid, uint32_t transfer,
+                                      uint32_t low_speed, uint32_t toggle,
+                                      uint32_t address, uint32_t endpoint,
+                                      const uint8_t *payload,
+                                      size_t payload_len);
+grimholdi_answer INPLACE(complete_split)(uint8_t *area, size_t area_len,
+                                         uint32_t address, uint32_t endpoint,
+                                         uint32_t direction,
+                                         uint8_t *reply, size_t reply_len);
+grimholdi_answer INPLACE(launch)(uint8_t *area, size_t area_len,
+                                 uint8_t *reply, size_t reply_len);
+grimholdi_answer INPLACE(deliver)(uint8_t *area, size_t area_len,
+                                  uint32_t result,
+                                  const uint8_t *payload, size_t payload_len);
+grimholdi_answer INPLACE(line_event)(uint8_t *area, size_t area_len,
+                                     uint32_t event, uint32_t port);
+grimholdi_answer INPLACE(tick)(uint8_t *area, size_t area_len);
+grimholdi_answer INPLACE(bus_reset)(uint8_t *area, size_t area_len);
+
+#endif

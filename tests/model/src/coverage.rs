@@ -1,0 +1,625 @@
+//! Which situations the calls met.  A cell is one combination of a situation
+//! and a call; each must be visited or be listed as unreachable.
+
+use crate::answer::{self, Answer};
+use crate::damage::{Damage, FIELDS};
+use crate::hub::{Call, Hub};
+use crate::port::{ClearFeature, Port, SetFeature, State};
+use crate::request::Request;
+use crate::situations::SITUATIONS;
+use crate::translator::{Buffer, Direction, Key, LowSide, Token};
+
+/// One call of a session: the hub before and after it.
+pub struct Step<'a> {
+    pub before: &'a Hub,
+    pub call: &'a Call,
+    pub answer: &'a Answer,
+    pub after: &'a Hub,
+}
+
+/// What a table prints in a cell.
+enum Show {
+    /// The answers seen.
+    Answers,
+    /// The number of visits.
+    Visits,
+}
+
+struct Table {
+    title: &'static str,
+    rows: Vec<&'static str>,
+    columns: Vec<&'static str>,
+    show: Show,
+    /// Visits by answer, for each row and column.
+    cells: Vec<Vec<[u64; answer::COUNT]>>,
+    unreachable: Vec<Unreachable>,
+}
+
+struct Unreachable {
+    rows: &'static [&'static str],
+    columns: &'static [&'static str],
+    reason: &'static str,
+}
+
+pub struct Coverage {
+    hubs: Table,
+    ports: Table,
+    translator: Table,
+    keys: Table,
+    answers: Table,
+    damage: Table,
+    situations: Table,
+}
+
+const PORT_COUNTS: [&str; 7] =
+    ["1 port", "2 ports", "3 ports", "4 ports", "5 ports", "6 ports", "7 ports"];
+const BUFFER_COUNTS: [&str; 3] = ["2 buf", "3 buf", "4 buf"];
+
+const PORT_INPUTS: [&str; 20] = [
+    "attach low",
+    "attach full",
+    "detach",
+    "chirp",
+    "wake",
+    "port error",
+    "over-current on",
+    "over-current off",
+    "tick",
+    "set PORT_SUSPEND",
+    "set PORT_RESET",
+    "set PORT_POWER",
+    "clear PORT_ENABLE",
+    "clear PORT_SUSPEND",
+    "clear PORT_POWER",
+    "clear C_PORT_CONNECTION",
+    "clear C_PORT_ENABLE",
+    "clear C_PORT_SUSPEND",
+    "clear C_PORT_OVER_CURRENT",
+    "clear C_PORT_RESET",
+];
+
+/// States with the speed's first letter; Off! is Powered-off under
+/// over-current.
+const PORT_STATES: [&str; 19] = [
+    "NotC", "Off", "Off!", "Disc", "DisaL", "DisaF", "DisaH", "RsetL", "RsetF", "RsetH", "EnabL",
+    "EnabF", "EnabH", "SuspL", "SuspF", "SuspH", "RsumL", "RsumF", "RsumH",
+];
+
+const CALLS: [&str; 20] = [
+    "SetConfiguration",
+    "GetConfiguration",
+    "GetHubDescriptor",
+    "GetHubStatus",
+    "GetPortStatus",
+    "ClearHubFeature",
+    "ClearPortFeature",
+    "SetPortFeature",
+    "ClearTTBuffer",
+    "ResetTT",
+    "other setup bytes",
+    "poll",
+    "start-split",
+    "complete-split",
+    "launch",
+    "deliver",
+    "line event",
+    "tick",
+    "bus reset",
+    "new",
+];
+
+const REQUESTS: &[&str] = &[
+    "SetConfiguration",
+    "GetConfiguration",
+    "GetHubDescriptor",
+    "GetHubStatus",
+    "GetPortStatus",
+    "ClearHubFeature",
+    "ClearPortFeature",
+    "SetPortFeature",
+    "ClearTTBuffer",
+    "ResetTT",
+    "other setup bytes",
+];
+
+const ANSWERS: [&str; answer::COUNT] = ["0", "1", "2", "3", "4", "5", "6", "7", "8", "9"];
+
+const UNREACHABLE_ANSWERS: [Unreachable; 12] = [
+    Unreachable {
+        rows: REQUESTS,
+        columns: &["3", "4", "5", "8", "9"],
+        reason: "a control request is done, gives data or is stalled, in every state",
+    },
+    Unreachable {
+        rows: &["GetConfiguration", "GetHubDescriptor", "GetHubStatus", "GetPortStatus"],
+        columns: &["0"],
+        reason: "a Get request gives data",
+    },
+    Unreachable {
+        rows: &[
+            "SetConfiguration",
+            "ClearHubFeature",
+            "ClearPortFeature",
+            "SetPortFeature",
+            "ClearTTBuffer",
+            "ResetTT",
+        ],
+        columns: &["1"],
+        reason: "the request gives no data",
+    },
+    Unreachable {
+        rows: &["other setup bytes"],
+        columns: &["0", "1"],
+        reason: "bytes that are no request are stalled",
+    },
+    Unreachable {
+        rows: &["poll"],
+        columns: &["0", "2", "4", "8", "9"],
+        reason: "a poll gives a bitmap or NAK",
+    },
+    Unreachable {
+        rows: &["start-split"],
+        columns: &["1", "2", "4", "8", "9"],
+        reason: "a start-split is acknowledged or gets NAK",
+    },
+    Unreachable {
+        rows: &["start-split", "deliver", "line event", "tick", "bus reset", "new"],
+        columns: &["7"],
+        reason: "the call takes no reply space",
+    },
+    Unreachable {
+        rows: &["complete-split"],
+        columns: &["0", "3", "8"],
+        reason: "a complete-split gives STALL, NYET, data or a handshake",
+    },
+    Unreachable {
+        rows: &["launch"],
+        columns: &["0", "2", "4", "9"],
+        reason: "a launch gives a transaction, NAK, or finds the low side occupied",
+    },
+    Unreachable {
+        rows: &["deliver"],
+        columns: &["1", "2", "3", "4", "9"],
+        reason: "a delivery is taken or not in this state",
+    },
+    Unreachable {
+        rows: &["line event"],
+        columns: &["1", "2", "3", "4", "5", "9"],
+        reason: "an event took place or not in this state; unconfigured, it is 8",
+    },
+    Unreachable {
+        rows: &["tick", "bus reset", "new"],
+        columns: &["1", "2", "3", "4", "5", "8", "9"],
+        reason: "done in every state",
+    },
+];
+
+/// The hub's configuration, the low side, and the statuses that buffers have.
+const TRANSLATOR_STATES: [&str; 8] =
+    ["unconf", "idle", "running", "abandon", "empty", "pending", "ready", "old"];
+
+const KEY_CALLS: [&str; 7] = [
+    "start-split IN",
+    "start-split OUT",
+    "start-split SETUP",
+    "complete-split IN",
+    "complete-split OUT",
+    "ClearTTBuffer IN",
+    "ClearTTBuffer OUT",
+];
+
+/// The buffer with the call's key: none though one is free, none and none
+/// free, waiting to be launched, running, ready, old.
+const KEY_STATES: [&str; 6] = ["none", "full", "waiting", "running", "ready", "old"];
+
+const DAMAGE_ENDS: [&str; 2] = ["refused", "taken"];
+const SEVERAL: &str = "several bytes";
+const LENGTH: &str = "length";
+const UNREACHED: &str = "permitted, not reached";
+
+const UNREACHABLE_DAMAGE: [Unreachable; 7] = [
+    Unreachable {
+        rows: &["ports", "buffers", LENGTH],
+        columns: &["taken"],
+        reason: "the length no longer fits the numbers",
+    },
+    Unreachable {
+        rows: &["power-good", "current"],
+        columns: &["refused"],
+        reason: "every byte is permitted",
+    },
+    Unreachable {
+        rows: &["configured"],
+        columns: &["taken"],
+        reason: "the ports no longer fit it",
+    },
+    Unreachable {
+        rows: &["byte of the payload"],
+        columns: &["refused"],
+        reason: "every byte is permitted",
+    },
+    Unreachable {
+        rows: &["byte behind the payload"],
+        columns: &["taken"],
+        reason: "bytes behind the payload are zero",
+    },
+    Unreachable {
+        rows: &["byte of an empty buffer"],
+        columns: &["taken"],
+        reason: "an empty buffer is all zero, and PID 0 is none",
+    },
+    Unreachable {
+        rows: &[UNREACHED],
+        columns: &["refused"],
+        reason: "every permitted hub is taken",
+    },
+];
+
+impl Coverage {
+    pub fn new() -> Coverage {
+        let damage_rows = FIELDS.iter().copied().chain([SEVERAL, LENGTH, UNREACHED]);
+        let situation_rows = SITUATIONS.iter().map(|(name, _)| *name);
+        Coverage {
+            hubs: Table::new("Session calls by size of the hub", PORT_COUNTS, BUFFER_COUNTS)
+                .showing_visits(),
+            ports: Table::new("Ports: answers by input and state", PORT_INPUTS, PORT_STATES),
+            translator: Table::new(
+                "Translator: answers by call and state of low side and buffers",
+                CALLS.into_iter().filter(|&call| call != "new"),
+                TRANSLATOR_STATES,
+            ),
+            keys: Table::new("Keys: answers by call and the key's buffer", KEY_CALLS, KEY_STATES),
+            answers: Table::new("Calls by answer", CALLS, ANSWERS)
+                .showing_visits()
+                .without(UNREACHABLE_ANSWERS),
+            damage: Table::new("Changed areas", damage_rows, DAMAGE_ENDS)
+                .showing_visits()
+                .without(UNREACHABLE_DAMAGE),
+            situations: Table::new("Situations", situation_rows, ["visits"]).showing_visits(),
+        }
+    }
+
+    pub fn session_call(&mut self, step: &Step) {
+        let number = step.answer.number;
+        let (ports, buffers) = (step.before.ports.len(), step.before.translator.buffers.len());
+        self.hubs.visit(PORT_COUNTS[ports - 1], BUFFER_COUNTS[buffers - 2], number);
+        self.answer(step.call, step.answer);
+        self.situations(step);
+        if matches!(number, answer::OUTSIDE | answer::NO_SPACE) {
+            return;
+        }
+        for (input, port) in port_inputs(step) {
+            self.ports.visit(input, port_state(port), number);
+        }
+        for state in translator_states(step.before) {
+            self.translator.visit(call_name(step.call), state, number);
+        }
+        if step.before.configured {
+            if let Some((call, key)) = key_call(step) {
+                self.keys.visit(call, key_state(step.before, key), number);
+            }
+        }
+    }
+
+    fn situations(&mut self, step: &Step) {
+        for (name, met) in SITUATIONS {
+            if met(step) {
+                self.situations.visit(name, "visits", step.answer.number);
+            }
+        }
+    }
+
+    pub fn answer(&mut self, call: &Call, answer: &Answer) {
+        self.answers.visit(call_name(call), ANSWERS[usize::from(answer.number)], answer.number);
+    }
+
+    pub fn new_hub(&mut self, answer: &Answer) {
+        self.answers.visit("new", ANSWERS[usize::from(answer.number)], answer.number);
+    }
+
+    pub fn damage(&mut self, damage: &Damage, taken: bool) {
+        let row = match damage {
+            Damage::None => return,
+            Damage::Byte(field) => FIELDS[*field],
+            Damage::Several => SEVERAL,
+            Damage::Length => LENGTH,
+        };
+        self.damage.visit(row, DAMAGE_ENDS[usize::from(taken)], 0);
+    }
+
+    pub fn unreached(&mut self, taken: bool) {
+        self.damage.visit(UNREACHED, DAMAGE_ENDS[usize::from(taken)], 0);
+    }
+
+    fn tables(&self) -> [&Table; 7] {
+        [
+            &self.hubs,
+            &self.ports,
+            &self.translator,
+            &self.keys,
+            &self.answers,
+            &self.damage,
+            &self.situations,
+        ]
+    }
+
+    pub fn print(&self) {
+        self.tables().into_iter().for_each(Table::print);
+    }
+
+    /// The reachable cells, and those of them that were visited.
+    pub fn cells(&self) -> (usize, usize) {
+        let reachable = self.tables().iter().map(|table| table.reachable().count()).sum();
+        let gaps = self.tables().iter().map(|table| table.gaps().len()).sum::<usize>();
+        (reachable, reachable - gaps)
+    }
+
+    /// What was never visited, and what was visited though listed as
+    /// unreachable.
+    pub fn faults(&self) -> Vec<String> {
+        self.tables().iter().flat_map(|table| [table.gaps(), table.surprises()].concat()).collect()
+    }
+}
+
+impl Table {
+    fn new(
+        title: &'static str,
+        rows: impl IntoIterator<Item = &'static str>,
+        columns: impl IntoIterator<Item = &'static str>,
+    ) -> Table {
+        let rows: Vec<_> = rows.into_iter().collect();
+        let columns: Vec<_> = columns.into_iter().collect();
+        let cells = vec![vec![[0; answer::COUNT]; columns.len()]; rows.len()];
+        Table { title, rows, columns, show: Show::Answers, cells, unreachable: Vec::new() }
+    }
+
+    fn showing_visits(self) -> Table {
+        Table { show: Show::Visits, ..self }
+    }
+
+    fn without(self, unreachable: impl IntoIterator<Item = Unreachable>) -> Table {
+        Table { unreachable: unreachable.into_iter().collect(), ..self }
+    }
+
+    fn visit(&mut self, row: &str, column: &str, answer: u8) {
+        let row = self.rows.iter().position(|&name| name == row).expect("a row's name");
+        let column = self.columns.iter().position(|&name| name == column).expect("a column's name");
+        self.cells[row][column][usize::from(answer)] += 1;
+    }
+
+    fn visits(&self, row: usize, column: usize) -> u64 {
+        self.cells[row][column].iter().sum()
+    }
+
+    fn is_unreachable(&self, row: usize, column: usize) -> bool {
+        self.unreachable.iter().any(|list| {
+            list.rows.contains(&self.rows[row]) && list.columns.contains(&self.columns[column])
+        })
+    }
+
+    fn places(&self) -> impl Iterator<Item = (usize, usize)> + '_ {
+        (0..self.rows.len())
+            .flat_map(|row| (0..self.columns.len()).map(move |column| (row, column)))
+    }
+
+    fn reachable(&self) -> impl Iterator<Item = (usize, usize)> + '_ {
+        self.places().filter(|&(row, column)| !self.is_unreachable(row, column))
+    }
+
+    fn gaps(&self) -> Vec<String> {
+        self.reachable()
+            .filter(|&(row, column)| self.visits(row, column) == 0)
+            .map(|(row, column)| self.describe("never visited", row, column))
+            .collect()
+    }
+
+    fn surprises(&self) -> Vec<String> {
+        self.places()
+            .filter(|&(row, column)| {
+                self.is_unreachable(row, column) && self.visits(row, column) > 0
+            })
+            .map(|(row, column)| self.describe("listed as unreachable, but visited", row, column))
+            .collect()
+    }
+
+    fn describe(&self, what: &str, row: usize, column: usize) -> String {
+        format!("{what}: {}: {} / {}", self.title, self.rows[row], self.columns[column])
+    }
+
+    fn text(&self, row: usize, column: usize) -> String {
+        let cell = &self.cells[row][column];
+        match self.show {
+            _ if self.is_unreachable(row, column) => "-".into(),
+            Show::Visits => self.visits(row, column).to_string(),
+            Show::Answers => {
+                (0..answer::COUNT).filter(|&number| cell[number] > 0).map(|n| ANSWERS[n]).collect()
+            }
+        }
+    }
+
+    fn print(&self) {
+        let width = match self.show {
+            Show::Visits => 8,
+            Show::Answers => self.columns.iter().map(|name| name.len()).max().unwrap_or(0),
+        };
+        let name_width = self.rows.iter().map(|name| name.len()).max().unwrap_or(0);
+        println!("{}", self.title);
+        print!("  {:name_width$}", "");
+        for column in &self.columns {
+            print!(" {column:>width$}");
+        }
+        println!();
+        for (row, name) in self.rows.iter().enumerate() {
+            print!("  {name:name_width$}");
+            for column in 0..self.columns.len() {
+                print!(" {:>width$}", self.text(row, column));
+            }
+            println!();
+        }
+        let fewest = self.reachable().map(|(row, column)| self.visits(row, column)).min();
+        println!("  fewest visits to a reachable cell: {}", fewest.unwrap_or(0));
+        for list in &self.unreachable {
+            println!(
+                "  unreachable: {} / {}: {}",
+                list.rows.join(", "),
+                list.columns.join(", "),
+                list.reason
+            );
+        }
+        println!();
+    }
+}
+
+/// The eight setup bytes of a control request.
+fn setup(call: &Call) -> Option<&[u8; 8]> {
+    match call {
+        Call::Control { setup, .. } => setup.as_slice().try_into().ok(),
+        _ => None,
+    }
+}
+
+/// The request, whether the hub serves it or not.
+pub fn request(call: &Call) -> Option<Request> {
+    setup(call).and_then(Request::read)
+}
+
+fn call_name(call: &Call) -> &'static str {
+    match call {
+        Call::Control { .. } => match setup(call).map(|setup| (setup[0], setup[1])) {
+            Some((0x00, 0x09)) => "SetConfiguration",
+            Some((0x80, 0x08)) => "GetConfiguration",
+            Some((0xA0, 0x06)) => "GetHubDescriptor",
+            Some((0xA0, 0x00)) => "GetHubStatus",
+            Some((0xA3, 0x00)) => "GetPortStatus",
+            Some((0x20, 0x01)) => "ClearHubFeature",
+            Some((0x23, 0x01)) => "ClearPortFeature",
+            Some((0x23, 0x03)) => "SetPortFeature",
+            Some((0x23, 0x08)) => "ClearTTBuffer",
+            Some((0x23, 0x09)) => "ResetTT",
+            _ => "other setup bytes",
+        },
+        Call::Poll { .. } => "poll",
+        Call::StartSplit { .. } => "start-split",
+        Call::CompleteSplit { .. } => "complete-split",
+        Call::Launch { .. } => "launch",
+        Call::Deliver { .. } => "deliver",
+        Call::LineEvent { .. } => "line event",
+        Call::Tick => "tick",
+        Call::BusReset => "bus reset",
+    }
+}
+
+/// The inputs that the call gives to ports.
+fn port_inputs<'a>(step: &Step<'a>) -> Vec<(&'static str, &'a Port)> {
+    let ports = &step.before.ports;
+    let named = |input: usize, port: usize| {
+        port.checked_sub(1)
+            .and_then(|place| ports.get(place))
+            .map(|port| (PORT_INPUTS[input], port))
+            .into_iter()
+            .collect()
+    };
+    match step.call {
+        Call::Tick => ports.iter().map(|port| ("tick", port)).collect(),
+        Call::LineEvent { event, port } => named(*event as usize, *port as usize),
+        _ => match request(step.call) {
+            Some(Request::SetPortFeature(feature, port)) => {
+                let input = match feature {
+                    SetFeature::Suspend => 9,
+                    SetFeature::Reset => 10,
+                    SetFeature::Power => 11,
+                };
+                named(input, port.into())
+            }
+            Some(Request::ClearPortFeature(feature, port)) => {
+                let input = match feature {
+                    ClearFeature::Enable => 12,
+                    ClearFeature::Suspend => 13,
+                    ClearFeature::Power => 14,
+                    ClearFeature::Change(change) => 15 + change as usize,
+                };
+                named(input, port.into())
+            }
+            _ => Vec::new(),
+        },
+    }
+}
+
+fn port_state(port: &Port) -> &'static str {
+    let first = match port.state {
+        State::NotConfigured => 0,
+        State::PoweredOff => 1 + usize::from(port.over_current),
+        State::Disconnected => 3,
+        State::Disabled(_) => 4,
+        State::Resetting(..) => 7,
+        State::Enabled(_) => 10,
+        State::Suspended(_) => 13,
+        State::Resuming(..) => 16,
+    };
+    PORT_STATES[first + port.state.speed().map_or(0, |speed| speed as usize)]
+}
+
+fn translator_states(hub: &Hub) -> Vec<&'static str> {
+    if !hub.configured {
+        return vec!["unconf"];
+    }
+    let low_side = match hub.translator.low_side {
+        LowSide::Idle => "idle",
+        LowSide::Running(_) => "running",
+        LowSide::Abandoned => "abandon",
+    };
+    let statuses = hub.translator.buffers.iter().map(|buffer| match buffer {
+        Buffer::Empty => "empty",
+        Buffer::Pending { .. } => "pending",
+        Buffer::Ready(..) => "ready",
+        Buffer::Old(..) => "old",
+    });
+    [low_side].into_iter().chain(statuses).collect()
+}
+
+fn key_call(step: &Step) -> Option<(&'static str, Key)> {
+    match step.call {
+        Call::StartSplit { numbers, .. } => numbers.understand().map(|start| {
+            let call = match start.token {
+                Token::In => "start-split IN",
+                Token::Out => "start-split OUT",
+                Token::Setup => "start-split SETUP",
+            };
+            (call, start.key())
+        }),
+        Call::CompleteSplit { address, endpoint, direction, .. } => {
+            Key::from_numbers(*address, *endpoint, *direction).map(|key| {
+                let call = match key.direction {
+                    Direction::In => "complete-split IN",
+                    Direction::Out => "complete-split OUT",
+                };
+                (call, key)
+            })
+        }
+        _ => match request(step.call) {
+            Some(Request::ClearTtBuffer(key)) => {
+                let call = match key.direction {
+                    Direction::In => "ClearTTBuffer IN",
+                    Direction::Out => "ClearTTBuffer OUT",
+                };
+                Some((call, key))
+            }
+            _ => None,
+        },
+    }
+}
+
+fn key_state(hub: &Hub, key: Key) -> &'static str {
+    let translator = &hub.translator;
+    match translator.find(key) {
+        None if translator.buffers.iter().any(Buffer::is_free) => "none",
+        None => "full",
+        Some(number) => match translator.buffers[number] {
+            Buffer::Pending { .. } if translator.low_side == LowSide::Running(number) => "running",
+            Buffer::Pending { .. } => "waiting",
+            Buffer::Ready(..) => "ready",
+            Buffer::Old(..) => "old",
+            Buffer::Empty => unreachable!("an empty buffer has no key"),
+        },
+    }
+}

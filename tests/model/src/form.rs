@@ -1,0 +1,154 @@
+//! The written form of a hub in the lent area.
+
+use crate::hub::{Hub, StartNumbers};
+use crate::port::{Change, Port, Speed, State, RESET_END, RESUME_END};
+use crate::translator::{Buffer, LowSide, Outcome, Start, Translator};
+
+pub const HEADER: usize = 8;
+pub const PORT: usize = 4;
+pub const BUFFER: usize = 72;
+pub const BUFFER_HEAD: usize = 8;
+
+pub fn length(ports: usize, buffers: usize) -> usize {
+    HEADER + PORT * ports + BUFFER * buffers
+}
+
+pub fn write(hub: &Hub) -> Vec<u8> {
+    let translator = &hub.translator;
+    let (low_side, running) = match translator.low_side {
+        LowSide::Idle => (0, 0),
+        LowSide::Running(number) => (1, number as u8),
+        LowSide::Abandoned => (2, 0),
+    };
+    let mut area = Vec::with_capacity(length(hub.ports.len(), translator.buffers.len()));
+    area.extend([hub.ports.len() as u8, translator.buffers.len() as u8]);
+    area.extend([hub.power_good, hub.current, hub.removable]);
+    area.extend([hub.configured.into(), low_side, running]);
+    for port in &hub.ports {
+        area.extend(write_port(port));
+    }
+    for buffer in &translator.buffers {
+        write_buffer(buffer, &mut area);
+    }
+    area
+}
+
+fn write_port(port: &Port) -> [u8; PORT] {
+    let (state, ticks) = match port.state {
+        State::NotConfigured => (0, 0),
+        State::PoweredOff => (1, 0),
+        State::Disconnected => (2, 0),
+        State::Disabled(_) => (3, 0),
+        State::Resetting(_, ticks) => (4, ticks),
+        State::Enabled(_) => (5, 0),
+        State::Suspended(_) => (6, 0),
+        State::Resuming(_, ticks) => (7, ticks),
+    };
+    let speed = port.state.speed().map_or(0, |speed| speed as u8);
+    [state, speed, ticks, port.change_bits() | u8::from(port.over_current) << 5]
+}
+
+fn write_buffer(buffer: &Buffer, area: &mut Vec<u8>) {
+    let end = area.len() + BUFFER;
+    let (status, start, last, bytes) = match buffer {
+        Buffer::Empty => {
+            area.resize(end, 0);
+            return;
+        }
+        Buffer::Pending { start, payload, place } => (1, start, *place, payload.as_slice()),
+        Buffer::Ready(start, outcome) => (2, start, outcome.number(), outcome.bytes()),
+        Buffer::Old(start, outcome) => (3, start, outcome.number(), outcome.bytes()),
+    };
+    let flags = u8::from(start.low_speed) + 2 * u8::from(start.toggle);
+    area.extend([status, start.token.number(), start.transfer.number(), flags]);
+    area.extend([start.address, start.endpoint, last, bytes.len() as u8]);
+    area.extend(bytes);
+    area.resize(end, 0);
+}
+
+/// The permitted hub whose written form the area is, if there is one.
+pub fn read(area: &[u8]) -> Option<Hub> {
+    let (header, rest) = area.split_at_checked(HEADER)?;
+    let &[ports, buffers, power_good, current, removable, configured, low_side, running] = header
+    else {
+        return None;
+    };
+    let new = Hub::new(
+        ports.into(),
+        buffers.into(),
+        power_good.into(),
+        current.into(),
+        removable.into(),
+    )?;
+    if area.len() != length(ports.into(), buffers.into()) {
+        return None;
+    }
+    let (ports, buffers) = rest.split_at(PORT * usize::from(ports));
+    let hub = Hub {
+        configured: configured != 0,
+        ports: ports.chunks(PORT).map(read_port).collect::<Option<_>>()?,
+        translator: Translator {
+            buffers: buffers.chunks(BUFFER).map(read_buffer).collect::<Option<_>>()?,
+            low_side: match low_side {
+                0 => LowSide::Idle,
+                1 => LowSide::Running(running.into()),
+                _ => LowSide::Abandoned,
+            },
+        },
+        ..new
+    };
+    // Bytes that the reading passed over show in the second writing.
+    (hub.is_permitted() && write(&hub) == area).then_some(hub)
+}
+
+fn read_port(bytes: &[u8]) -> Option<Port> {
+    let &[state, speed, ticks, marks] = bytes else { return None };
+    let speed = *[Speed::Low, Speed::Full, Speed::High].get(usize::from(speed))?;
+    let state = match state {
+        0 => State::NotConfigured,
+        1 => State::PoweredOff,
+        2 => State::Disconnected,
+        3 => State::Disabled(speed),
+        4 if ticks < RESET_END => State::Resetting(speed, ticks),
+        5 => State::Enabled(speed),
+        6 => State::Suspended(speed),
+        7 if ticks < RESUME_END => State::Resuming(speed, ticks),
+        _ => return None,
+    };
+    let set = |change: &Change| marks >> *change as u8 & 1 == 1;
+    Some(Port {
+        state,
+        over_current: marks >> 5 & 1 == 1,
+        changes: Change::ALL.into_iter().filter(set).collect(),
+    })
+}
+
+fn read_buffer(bytes: &[u8]) -> Option<Buffer> {
+    let (&[status, pid, transfer, flags, address, endpoint, last, length], bytes) =
+        bytes.split_first_chunk::<BUFFER_HEAD>()?;
+    if status == 0 {
+        return Some(Buffer::Empty);
+    }
+    let start = StartNumbers {
+        pid: pid.into(),
+        transfer: transfer.into(),
+        low_speed: (flags & 1).into(),
+        toggle: (flags >> 1 & 1).into(),
+        address: address.into(),
+        endpoint: endpoint.into(),
+    }
+    .understand()?;
+    let payload = bytes.get(..usize::from(length))?;
+    let finished = |start: Start| {
+        let outcome = Outcome::from_number(last.into(), payload)?;
+        outcome.suits(start.token).then_some((start, outcome))
+    };
+    match status {
+        1 if start.permits_payload(payload.len()) => {
+            Some(Buffer::Pending { start, payload: payload.to_vec(), place: last })
+        }
+        2 => finished(start).map(|(start, outcome)| Buffer::Ready(start, outcome)),
+        3 => finished(start).map(|(start, outcome)| Buffer::Old(start, outcome)),
+        _ => None,
+    }
+}

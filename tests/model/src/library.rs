@@ -1,0 +1,155 @@
+//! The C library behind its header, and the memory lent to it.
+
+use std::ptr;
+
+use crate::hub::Call;
+
+/// `grimholdi_answer`.
+#[repr(C)]
+#[derive(Clone, Copy, Debug, PartialEq, Eq)]
+pub struct RawAnswer {
+    pub number: u8,
+    pub length: u8,
+    pub pid: u8,
+    pub transfer: u8,
+    pub address: u8,
+    pub endpoint: u8,
+    pub direction: u8,
+    pub low_speed: u8,
+    pub toggle: u8,
+}
+
+#[rustfmt::skip]
+extern "C" {
+    fn grimholdi_area_length(ports: u32, buffers: u32) -> usize;
+    fn grimholdi_new(area: *mut u8, area_len: usize, ports: u32, buffers: u32, power_good: u32, current: u32, removable: u32) -> RawAnswer;
+    fn grimholdi_control(area: *mut u8, area_len: usize, setup: *const u8, setup_len: usize, reply: *mut u8, reply_len: usize) -> RawAnswer;
+    fn grimholdi_poll(area: *mut u8, area_len: usize, reply: *mut u8, reply_len: usize) -> RawAnswer;
+    fn grimholdi_start_split(area: *mut u8, area_len: usize, pid: u32, transfer: u32, low_speed: u32, toggle: u32, address: u32, endpoint: u32, payload: *const u8, payload_len: usize) -> RawAnswer;
+    fn grimholdi_complete_split(area: *mut u8, area_len: usize, address: u32, endpoint: u32, direction: u32, reply: *mut u8, reply_len: usize) -> RawAnswer;
+    fn grimholdi_launch(area: *mut u8, area_len: usize, reply: *mut u8, reply_len: usize) -> RawAnswer;
+    fn grimholdi_deliver(area: *mut u8, area_len: usize, result: u32, payload: *const u8, payload_len: usize) -> RawAnswer;
+    fn grimholdi_line_event(area: *mut u8, area_len: usize, event: u32, port: u32) -> RawAnswer;
+    fn grimholdi_tick(area: *mut u8, area_len: usize) -> RawAnswer;
+    fn grimholdi_bus_reset(area: *mut u8, area_len: usize) -> RawAnswer;
+}
+
+const GUARD: [u8; 16] = *b"\xA5\x5A\xC3\x3C\x96\x69\xF0\x0F\x1E\xE1\x2D\xD2\x4B\xB4\x87\x78";
+
+/// Bytes to lend, with guard bytes on both sides.
+#[derive(Clone)]
+pub struct Guarded {
+    memory: Vec<u8>,
+}
+
+impl Guarded {
+    pub fn new(bytes: &[u8]) -> Guarded {
+        Guarded { memory: [&GUARD, bytes, &GUARD].concat() }
+    }
+
+    pub fn bytes(&self) -> &[u8] {
+        &self.memory[GUARD.len()..self.memory.len() - GUARD.len()]
+    }
+
+    pub fn bytes_mut(&mut self) -> &mut [u8] {
+        let end = self.memory.len() - GUARD.len();
+        &mut self.memory[GUARD.len()..end]
+    }
+
+    pub fn guards_are_whole(&self) -> bool {
+        self.memory.starts_with(&GUARD) && self.memory.ends_with(&GUARD)
+    }
+
+    /// Changes the first byte behind the lent ones.
+    pub fn break_guard(&mut self) {
+        let end = self.memory.len() - GUARD.len();
+        self.memory[end] ^= 1;
+    }
+
+    /// (NULL, 0) if there are no bytes.
+    fn lend(&mut self) -> (*mut u8, usize) {
+        let length = self.bytes().len();
+        let start = self.bytes_mut().as_mut_ptr();
+        (if length == 0 { ptr::null_mut() } else { start }, length)
+    }
+}
+
+/// All memory that a call is lent.  `input` holds setup bytes or a payload.
+#[derive(Clone)]
+pub struct Lent {
+    pub area: Guarded,
+    pub reply: Guarded,
+    pub input: Guarded,
+}
+
+/// The numbers given to `grimholdi_new`.
+#[derive(Clone, Copy, Debug)]
+pub struct NewNumbers {
+    pub ports: u32,
+    pub buffers: u32,
+    pub power_good: u32,
+    pub current: u32,
+    pub removable: u32,
+}
+
+pub trait Library {
+    fn area_length(&self, ports: u32, buffers: u32) -> usize;
+    fn new_hub(&self, area: &mut Guarded, numbers: NewNumbers) -> RawAnswer;
+    /// Setup bytes and payloads are taken from `lent`, not from `call`.
+    fn call(&self, call: &Call, lent: &mut Lent) -> RawAnswer;
+}
+
+/// The library as it was linked.
+pub struct Linked;
+
+impl Library for Linked {
+    fn area_length(&self, ports: u32, buffers: u32) -> usize {
+        unsafe { grimholdi_area_length(ports, buffers) }
+    }
+
+    fn new_hub(&self, area: &mut Guarded, numbers: NewNumbers) -> RawAnswer {
+        let NewNumbers { ports, buffers, power_good, current, removable } = numbers;
+        let (area, area_len) = area.lend();
+        unsafe { grimholdi_new(area, area_len, ports, buffers, power_good, current, removable) }
+    }
+
+    fn call(&self, call: &Call, lent: &mut Lent) -> RawAnswer {
+        let (area, area_len) = lent.area.lend();
+        let (reply, reply_len) = lent.reply.lend();
+        let (input, input_len) = lent.input.lend();
+        unsafe {
+            match *call {
+                Call::Control { .. } => {
+                    grimholdi_control(area, area_len, input, input_len, reply, reply_len)
+                }
+                Call::Poll { .. } => grimholdi_poll(area, area_len, reply, reply_len),
+                Call::StartSplit { ref numbers, .. } => grimholdi_start_split(
+                    area,
+                    area_len,
+                    numbers.pid,
+                    numbers.transfer,
+                    numbers.low_speed,
+                    numbers.toggle,
+                    numbers.address,
+                    numbers.endpoint,
+                    input,
+                    input_len,
+                ),
+                Call::CompleteSplit { address, endpoint, direction, .. } => {
+                    grimholdi_complete_split(
+                        area, area_len, address, endpoint, direction, reply, reply_len,
+                    )
+                }
+                Call::Launch { .. } => grimholdi_launch(area, area_len, reply, reply_len),
+                Call::Deliver { result, .. } => {
+                    grimholdi_deliver(area, area_len, result, input, input_len)
+                }
+                Call::LineEvent { event, port } => {
+                    grimholdi_line_event(area, area_len, event, port)
+                }
+                Call::Tick => grimholdi_tick(area, area_len),
+                Call::BusReset => grimholdi_bus_reset(area, area_len),
+            }
+        }
+    }
+}

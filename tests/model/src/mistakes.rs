@@ -1,0 +1,165 @@
+//! The library with one mistake each, to show that the comparison finds it.
+
+use crate::answer;
+use crate::form;
+use crate::hub::Call;
+use crate::library::{Guarded, Lent, Library, Linked, NewNumbers, RawAnswer};
+
+/// Makes the call on the linked library, with the mistake.
+type Wrong = fn(&Call, &mut Lent) -> RawAnswer;
+
+pub struct Mistaken(Wrong);
+
+pub const MISTAKES: &[(&str, Mistaken)] = &[
+    ("keys matched without direction", Mistaken(without_direction)),
+    ("a result longer than delivered", Mistaken(older_tail)),
+    ("late result given to a refilled buffer", Mistaken(late_result)),
+    ("reset timer restarted by a second PORT_RESET", Mistaken(timer_restarted)),
+    ("change bits dropped when power goes off", Mistaken(changes_dropped)),
+    ("reply space checked before the numbers", Mistaken(space_first)),
+    ("a refused call changes the area", Mistaken(refusal_changes)),
+    ("a reply byte behind the data written", Mistaken(reply_overwritten)),
+    ("a byte behind the area written", Mistaken(guard_overwritten)),
+    ("an unused mark ignored", Mistaken(mark_ignored)),
+    ("a field given that does not apply", Mistaken(field_given)),
+    ("a failure not shown as STALL", Mistaken(failure_shown)),
+];
+
+impl Library for Mistaken {
+    fn area_length(&self, ports: u32, buffers: u32) -> usize {
+        Linked.area_length(ports, buffers)
+    }
+
+    fn new_hub(&self, area: &mut Guarded, numbers: NewNumbers) -> RawAnswer {
+        Linked.new_hub(area, numbers)
+    }
+
+    fn call(&self, call: &Call, lent: &mut Lent) -> RawAnswer {
+        (self.0)(call, lent)
+    }
+}
+
+fn without_direction(call: &Call, lent: &mut Lent) -> RawAnswer {
+    let answer = Linked.call(call, lent);
+    match *call {
+        Call::CompleteSplit { address, endpoint, direction, space }
+            if answer.number == answer::STALL =>
+        {
+            let direction = 1 - direction;
+            Linked.call(&Call::CompleteSplit { address, endpoint, direction, space }, lent)
+        }
+        _ => answer,
+    }
+}
+
+fn older_tail(call: &Call, lent: &mut Lent) -> RawAnswer {
+    let mut answer = Linked.call(call, lent);
+    if matches!(call, Call::CompleteSplit { .. }) && answer.number == answer::DATA {
+        answer.length = 64;
+    }
+    answer
+}
+
+fn late_result(call: &Call, lent: &mut Lent) -> RawAnswer {
+    let area = lent.area.bytes();
+    if matches!(call, Call::Deliver { .. }) && area.len() > form::HEADER && area[6] == 2 {
+        let first = form::length(area[0].into(), 0);
+        let refilled = (0..area[1])
+            .find(|&number| area.get(first + form::BUFFER * usize::from(number)) == Some(&1));
+        if let Some(number) = refilled {
+            lent.area.bytes_mut()[6..8].copy_from_slice(&[1, number]);
+        }
+    }
+    Linked.call(call, lent)
+}
+
+/// The port record that a done port feature request was for.
+fn port_of<'a>(
+    call: &Call,
+    lent: &'a mut Lent,
+    answer: RawAnswer,
+    code: u8,
+    feature: u8,
+) -> Option<&'a mut [u8]> {
+    match call {
+        Call::Control { setup, .. }
+            if answer.number == answer::DONE && setup[..3] == [0x23, code, feature] =>
+        {
+            let start = form::length(usize::from(setup[4]) - 1, 0);
+            Some(&mut lent.area.bytes_mut()[start..start + form::PORT])
+        }
+        _ => None,
+    }
+}
+
+fn timer_restarted(call: &Call, lent: &mut Lent) -> RawAnswer {
+    let answer = Linked.call(call, lent);
+    if let Some(port) = port_of(call, lent, answer, 3, 4) {
+        port[2] = 0;
+    }
+    answer
+}
+
+fn changes_dropped(call: &Call, lent: &mut Lent) -> RawAnswer {
+    let answer = Linked.call(call, lent);
+    if let Some(port) = port_of(call, lent, answer, 1, 8) {
+        port[3] &= 0x20;
+    }
+    answer
+}
+
+fn space_first(call: &Call, lent: &mut Lent) -> RawAnswer {
+    let mut answer = Linked.call(call, lent);
+    if call.space().is_some_and(|space| space < 64) {
+        answer.number = answer::NO_SPACE;
+    }
+    answer
+}
+
+fn refusal_changes(call: &Call, lent: &mut Lent) -> RawAnswer {
+    let answer = Linked.call(call, lent);
+    if answer.number == answer::NYET {
+        lent.area.bytes_mut()[2] ^= 1;
+    }
+    answer
+}
+
+fn reply_overwritten(call: &Call, lent: &mut Lent) -> RawAnswer {
+    let answer = Linked.call(call, lent);
+    if answer.number == answer::DATA {
+        if let Some(byte) = lent.reply.bytes_mut().get_mut(usize::from(answer.length)) {
+            *byte ^= 1;
+        }
+    }
+    answer
+}
+
+fn guard_overwritten(call: &Call, lent: &mut Lent) -> RawAnswer {
+    if matches!(call, Call::Launch { .. }) {
+        lent.area.break_guard();
+    }
+    Linked.call(call, lent)
+}
+
+fn mark_ignored(call: &Call, lent: &mut Lent) -> RawAnswer {
+    if let Some(marks) = lent.area.bytes_mut().get_mut(form::HEADER + 3) {
+        *marks &= 0x7F;
+    }
+    Linked.call(call, lent)
+}
+
+fn field_given(call: &Call, lent: &mut Lent) -> RawAnswer {
+    let mut answer = Linked.call(call, lent);
+    if let Call::CompleteSplit { address, .. } = call {
+        answer.address = *address as u8;
+    }
+    answer
+}
+
+fn failure_shown(call: &Call, lent: &mut Lent) -> RawAnswer {
+    let mut answer = Linked.call(call, lent);
+    if answer.number == answer::HANDSHAKE && answer.pid == 14 {
+        answer.pid = 0;
+    }
+    answer
+}

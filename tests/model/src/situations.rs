@@ -1,0 +1,328 @@
+//! Single situations that the calls of the sessions must meet.
+
+use crate::answer;
+use crate::coverage::{request, Step};
+use crate::hub::{Call, Hub};
+use crate::port::{ClearFeature, Event, Port, SetFeature, Speed, State};
+use crate::request::Request;
+use crate::translator::{Buffer, Direction, Key, LowSide, Outcome, Token, Translator};
+
+type Met = fn(&Step) -> bool;
+
+pub const SITUATIONS: &[(&str, Met)] = &[
+    ("a tick ends a reset", |step| {
+        ticked(step, |before, after| {
+            matches!((before, after), (State::Resetting(..), State::Enabled(_)))
+        })
+    }),
+    ("a tick ends a resume", |step| {
+        ticked(step, |before, after| {
+            matches!((before, after), (State::Resuming(..), State::Enabled(_)))
+        })
+    }),
+    ("PORT_RESET again, timer running", |step| {
+        set_on(step, SetFeature::Reset)
+            .is_some_and(|port| matches!(port.state, State::Resetting(_, 1..)))
+    }),
+    ("PORT_RESET again at high speed", |step| {
+        set_on(step, SetFeature::Reset)
+            .is_some_and(|port| matches!(port.state, State::Resetting(..)) && is_high(port))
+    }),
+    ("PORT_RESET makes high speed full speed", |step| {
+        set_on(step, SetFeature::Reset)
+            .is_some_and(|port| !matches!(port.state, State::Resetting(..)) && is_high(port))
+    }),
+    ("PORT_POWER under over-current", |step| {
+        set_on(step, SetFeature::Power).is_some_and(|port| port.over_current)
+    }),
+    ("power goes off, change bits stay", |step| {
+        clear_on(step, ClearFeature::Power)
+            .is_some_and(|port| has_change(port) && port.state != State::PoweredOff)
+    }),
+    ("detach ends PORT_ENABLE", |step| ends_enable(step, Event::Detach)),
+    ("port error ends PORT_ENABLE", |step| ends_enable(step, Event::PortError)),
+    ("over-current ends PORT_ENABLE", |step| ends_enable(step, Event::OverCurrentOn)),
+    ("over-current ends a reset", |step| {
+        event(step).is_some_and(|(event, port)| {
+            event == Event::OverCurrentOn && matches!(port.state, State::Resetting(..))
+        })
+    }),
+    ("over-current on again", |step| {
+        event(step).is_some_and(|(event, port)| event == Event::OverCurrentOn && port.over_current)
+    }),
+    ("over-current off again", |step| {
+        event(step)
+            .is_some_and(|(event, port)| event == Event::OverCurrentOff && !port.over_current)
+    }),
+    ("SetConfiguration 0 drops a level", |step| {
+        configures(step, false) && step.before.ports.iter().any(|port| port.over_current)
+    }),
+    ("SetConfiguration 1 keeps a level", |step| {
+        configures(step, true) && step.before.ports.iter().any(|port| port.over_current)
+    }),
+    ("SetConfiguration 0 keeps change bits", |step| {
+        configures(step, false) && step.before.ports.iter().any(has_change)
+    }),
+    ("SetConfiguration 1 keeps change bits", |step| {
+        configures(step, true) && step.before.ports.iter().any(has_change)
+    }),
+    ("SetConfiguration 0 stops the low side", |step| configures(step, false) && occupied(step)),
+    ("SetConfiguration 1 stops the low side", |step| configures(step, true) && occupied(step)),
+    ("ResetTT stops the low side", |step| {
+        requested(step) == Some(Request::ResetTt) && occupied(step)
+    }),
+    ("bus reset stops the low side", |step| matches!(step.call, Call::BusReset) && occupied(step)),
+    ("bus reset clears change bits", |step| {
+        matches!(step.call, Call::BusReset) && step.before.ports.iter().any(has_change)
+    }),
+    ("all buffers pending", |step| {
+        translator(step).buffers.iter().all(|buffer| buffer.place().is_some())
+    }),
+    ("start-split repeated with another PID", |step| {
+        start(step).is_some_and(|(token, key)| {
+            held(step, key).is_some_and(|buffer| {
+                !buffer.is_free() && buffer.start().is_some_and(|start| start.token != token)
+            })
+        })
+    }),
+    ("own old buffer reused, a lower one free", |step| {
+        start(step).and_then(|(_, key)| translator(step).find(key)).is_some_and(|number| {
+            let buffers = &translator(step).buffers;
+            buffers[number].is_free() && buffers[..number].iter().any(Buffer::is_free)
+        })
+    }),
+    ("old buffer of another key reused", |step| {
+        start(step).is_some_and(|(_, key)| {
+            step.answer.number == answer::DONE
+                && translator(step).find(key).is_none()
+                && translator(step)
+                    .buffers
+                    .iter()
+                    .find(|buffer| buffer.is_free())
+                    .is_some_and(|buffer| matches!(buffer, Buffer::Old(..)))
+        })
+    }),
+    ("shorter payload over a longer result", |step| {
+        start(step).is_some() && step.answer.number == answer::DONE && shortened(step)
+    }),
+    ("shorter result over a longer payload", |step| {
+        matches!(step.call, Call::Deliver { .. })
+            && step.answer.number == answer::DONE
+            && shortened(step)
+    }),
+    ("gap in the places closed", |step| {
+        let places = |translator: &Translator| {
+            translator.buffers.iter().map(Buffer::place).collect::<Vec<_>>()
+        };
+        let (before, after) = (places(translator(step)), places(&step.after.translator));
+        before.iter().zip(&after).any(|pair| matches!(pair, (Some(old), Some(new)) if old != new))
+    }),
+    ("launch out of the buffers' order", |step| {
+        matches!(step.call, Call::Launch { .. })
+            && step.answer.number == answer::DATA
+            && translator(step).earliest()
+                != translator(step).buffers.iter().position(|buffer| buffer.place().is_some())
+    }),
+    ("64 bytes launched", |step| {
+        matches!(step.call, Call::Launch { .. }) && step.answer.bytes.len() == 64
+    }),
+    ("64 bytes answered", |step| {
+        matches!(step.call, Call::CompleteSplit { .. }) && step.answer.bytes.len() == 64
+    }),
+    ("no bytes answered as data", |step| {
+        matches!(step.call, Call::CompleteSplit { .. })
+            && step.answer.number == answer::DATA
+            && step.answer.bytes.is_empty()
+    }),
+    ("failure shown as STALL", |step| {
+        completed(step).is_some_and(|outcome| *outcome == Outcome::Failure)
+    }),
+    ("STALL of the device", |step| {
+        completed(step).is_some_and(|outcome| *outcome == Outcome::Stall)
+    }),
+    ("complete-split, other direction held", |step| {
+        let Call::CompleteSplit { address, endpoint, direction, .. } = step.call else {
+            return false;
+        };
+        step.answer.number == answer::STALL
+            && Key::from_numbers(*address, *endpoint, 1 - direction)
+                .is_some_and(|key| held(step, key).is_some())
+    }),
+    ("both directions of an endpoint held", |step| {
+        translator(step).buffers.iter().filter_map(Buffer::key).any(|key| {
+            key.direction == Direction::In
+                && held(step, Key { direction: Direction::Out, ..key }).is_some()
+        })
+    }),
+    ("result does not suit IN", |step| unsuited(step, Token::In)),
+    ("result does not suit OUT", |step| unsuited(step, Token::Out)),
+    ("result does not suit SETUP", |step| unsuited(step, Token::Setup)),
+    ("running transaction abandoned", |step| {
+        matches!(translator(step).low_side, LowSide::Running(_))
+            && step.after.translator.low_side == LowSide::Abandoned
+    }),
+    ("clear while abandoned", |step| {
+        abandoned(step)
+            && matches!(requested(step), Some(Request::ClearTtBuffer(key)) if held(step, key).is_some())
+    }),
+    ("late delivery thrown away, buffer refilled", |step| {
+        abandoned(step)
+            && matches!(step.call, Call::Deliver { .. })
+            && step.answer.number == answer::DONE
+            && translator(step).earliest().is_some()
+    }),
+    ("late delivery of data", |step| late(step, |result| matches!(result, 3 | 11))),
+    ("late delivery of an ACK", |step| late(step, |result| result == 2)),
+    ("late delivery outside the rules", |step| {
+        abandoned(step)
+            && matches!(step.call, Call::Deliver { .. })
+            && step.answer.number == answer::OUTSIDE
+    }),
+    ("start-split stored while abandoned", |step| {
+        abandoned(step) && start(step).is_some() && pending(step.after) > pending(step.before)
+    }),
+    ("descriptor of no bytes", |step| {
+        matches!(requested(step), Some(Request::GetHubDescriptor(0)))
+    }),
+    ("descriptor cut", |step| matches!(requested(step), Some(Request::GetHubDescriptor(1..=8)))),
+    ("descriptor, more than 255 asked", |step| {
+        matches!(requested(step), Some(Request::GetHubDescriptor(256..)))
+    }),
+    ("port 0 in a request", |step| names_port(step, |port, _| port == 0)),
+    ("a port above the last in a request", |step| names_port(step, |port, last| port > last)),
+];
+
+fn translator<'a>(step: &Step<'a>) -> &'a Translator {
+    &step.before.translator
+}
+
+/// The event that took place, and the port before it.
+fn event<'a>(step: &Step<'a>) -> Option<(Event, &'a Port)> {
+    match step.call {
+        Call::LineEvent { event, port } if step.answer.number == answer::DONE => {
+            Some((Event::ALL[*event as usize], &step.before.ports[*port as usize - 1]))
+        }
+        _ => None,
+    }
+}
+
+fn has_change(port: &Port) -> bool {
+    !port.changes.is_empty()
+}
+
+fn is_high(port: &Port) -> bool {
+    port.state.speed() == Some(Speed::High)
+}
+
+fn ticked(step: &Step, met: fn(State, State) -> bool) -> bool {
+    let pairs = step.before.ports.iter().zip(&step.after.ports);
+    matches!(step.call, Call::Tick) && pairs.into_iter().any(|(old, new)| met(old.state, new.state))
+}
+
+/// The request, if it was done or gave data.
+fn requested(step: &Step) -> Option<Request> {
+    request(step.call).filter(|_| !answer::is_refusal(step.answer.number))
+}
+
+fn set_on<'a>(step: &Step<'a>, feature: SetFeature) -> Option<&'a Port> {
+    match requested(step) {
+        Some(Request::SetPortFeature(given, port)) if given == feature => {
+            step.before.ports.get(usize::from(port) - 1)
+        }
+        _ => None,
+    }
+}
+
+fn clear_on<'a>(step: &Step<'a>, feature: ClearFeature) -> Option<&'a Port> {
+    match requested(step) {
+        Some(Request::ClearPortFeature(given, port)) if given == feature => {
+            step.before.ports.get(usize::from(port) - 1)
+        }
+        _ => None,
+    }
+}
+
+fn names_port(step: &Step, met: fn(usize, usize) -> bool) -> bool {
+    step.answer.number == answer::STALL
+        && step.before.configured
+        && request(step.call)
+            .and_then(|request| request.port())
+            .is_some_and(|port| met(port.into(), step.before.ports.len()))
+}
+
+fn ends_enable(step: &Step, ending: Event) -> bool {
+    event(step).is_some_and(|(event, port)| {
+        event == ending && port.state.reads_enable() && !port.over_current
+    })
+}
+
+fn configures(step: &Step, value: bool) -> bool {
+    step.before.configured && requested(step) == Some(Request::SetConfiguration(value))
+}
+
+fn occupied(step: &Step) -> bool {
+    translator(step).low_side != LowSide::Idle
+}
+
+fn abandoned(step: &Step) -> bool {
+    translator(step).low_side == LowSide::Abandoned
+}
+
+/// A delivery thrown away.
+fn late(step: &Step, met: fn(u32) -> bool) -> bool {
+    matches!(step.call, Call::Deliver { result, .. } if met(*result))
+        && abandoned(step)
+        && step.answer.number == answer::DONE
+}
+
+fn pending(hub: &Hub) -> usize {
+    hub.translator.buffers.iter().filter(|buffer| buffer.place().is_some()).count()
+}
+
+fn held<'a>(step: &Step<'a>, key: Key) -> Option<&'a Buffer> {
+    let translator = translator(step);
+    translator.find(key).map(|number| &translator.buffers[number])
+}
+
+/// A start-split that is answered by the translator.
+fn start(step: &Step) -> Option<(Token, Key)> {
+    match step.call {
+        Call::StartSplit { numbers, .. }
+            if matches!(step.answer.number, answer::DONE | answer::NAK) =>
+        {
+            numbers.understand().map(|start| (start.token, start.key()))
+        }
+        _ => None,
+    }
+}
+
+/// The result that a complete-split gave.
+fn completed<'a>(step: &Step<'a>) -> Option<&'a Outcome> {
+    let Call::CompleteSplit { address, endpoint, direction, .. } = step.call else { return None };
+    if answer::is_refusal(step.answer.number) {
+        return None;
+    }
+    match held(step, Key::from_numbers(*address, *endpoint, *direction)?)? {
+        Buffer::Ready(_, outcome) | Buffer::Old(_, outcome) => Some(outcome),
+        _ => None,
+    }
+}
+
+fn unsuited(step: &Step, token: Token) -> bool {
+    matches!(step.call, Call::Deliver { .. })
+        && step.answer.number == answer::NOT_NOW
+        && translator(step).running() == Some(token)
+}
+
+/// A buffer holds fewer bytes than before, but isn't empty.
+fn shortened(step: &Step) -> bool {
+    let length = |buffer: &Buffer| match buffer {
+        Buffer::Empty => None,
+        Buffer::Pending { payload, .. } => Some(payload.len()),
+        Buffer::Ready(_, outcome) | Buffer::Old(_, outcome) => Some(outcome.bytes().len()),
+    };
+    let pairs = translator(step).buffers.iter().zip(&step.after.translator.buffers);
+    pairs
+        .into_iter()
+        .any(|(old, new)| matches!((length(old), length(new)), (Some(old), Some(new)) if new < old))
+}

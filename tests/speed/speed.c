@@ -1,0 +1,239 @@
+/*
+ * Makes one kind of call in a loop, for an instruction count.
+ *
+ * Usage: speed library|inplace WHAT PORTS BUFFERS LOOPS
+ *
+ *   in, out             one 64-byte bulk transaction through its four calls
+ *   in-start, in-launch, in-deliver, in-complete, and the same with out-
+ *                       one of the four calls, after the area is restored
+ *   restore             restoring the area alone
+ *   poll, status, tick  that call; status is GetPortStatus
+ *
+ * All ports are enabled with change bits set.  All buffers but the first hold
+ * a ready 64-byte result.
+ */
+
+#include "inplace.h"
+
+#include <stdio.h>
+#include <stdlib.h>
+#include <string.h>
+
+enum { START, LAUNCH, DELIVER, COMPLETE, STAGES };
+
+enum { ADDRESS = 5, OTHER_ADDRESS = 6, ENDPOINT = 1 };
+
+typedef struct {
+    size_t (*area_length)(uint32_t, uint32_t);
+    grimholdi_answer (*new_hub)(uint8_t *, size_t, uint32_t, uint32_t,
+                                uint32_t, uint32_t, uint32_t);
+    grimholdi_answer (*control)(uint8_t *, size_t, const uint8_t *, size_t,
+                                uint8_t *, size_t);
+    grimholdi_answer (*poll)(uint8_t *, size_t, uint8_t *, size_t);
+    grimholdi_answer (*start_split)(uint8_t *, size_t, uint32_t, uint32_t,
+                                    uint32_t, uint32_t, uint32_t, uint32_t,
+                                    const uint8_t *, size_t);
+    grimholdi_answer (*complete_split)(uint8_t *, size_t, uint32_t, uint32_t,
+                                       uint32_t, uint8_t *, size_t);
+    grimholdi_answer (*launch)(uint8_t *, size_t, uint8_t *, size_t);
+    grimholdi_answer (*deliver)(uint8_t *, size_t, uint32_t, const uint8_t *,
+                                size_t);
+    grimholdi_answer (*line_event)(uint8_t *, size_t, uint32_t, uint32_t);
+    grimholdi_answer (*tick)(uint8_t *, size_t);
+} hub_calls;
+
+static const hub_calls library_calls = {
+    grimholdi_area_length, grimholdi_new, grimholdi_control, grimholdi_poll,
+    grimholdi_start_split, grimholdi_complete_split, grimholdi_launch,
+    grimholdi_deliver, grimholdi_line_event, grimholdi_tick
+};
+
+static const hub_calls inplace_calls = {
+    inplace_area_length, inplace_new, inplace_control, inplace_poll,
+    inplace_start_split, inplace_complete_split, inplace_launch,
+    inplace_deliver, inplace_line_event, inplace_tick
+};
+
+static const hub_calls *calls;
+static uint8_t area[GRIMHOLDI_AREA_LENGTH_MAX];
+static size_t area_len;
+static uint8_t reply[GRIMHOLDI_REPLY_LENGTH];
+static uint8_t payload[GRIMHOLDI_PAYLOAD_MAX];
+static uint32_t ports;
+static uint32_t buffers;
+
+static void expect(grimholdi_answer answer, uint8_t number)
+{
+    if (answer.number != number) {
+        fprintf(stderr, "speed: answer %d instead of %d\n", answer.number,
+                number);
+        exit(1);
+    }
+}
+
+static grimholdi_answer request(uint8_t type, uint8_t code, uint8_t value,
+                                uint8_t index, uint8_t length)
+{
+    const uint8_t setup[GRIMHOLDI_SETUP_LENGTH] = {type, code, value, 0,
+                                                   index, 0, length, 0};
+
+    return calls->control(area, area_len, setup, sizeof setup,
+                          reply, sizeof reply);
+}
+
+/* One of the four calls of a transaction. */
+static void stage(int which, int out, uint32_t address)
+{
+    switch (which) {
+    case START:
+        expect(calls->start_split(area, area_len,
+                                  out ? GRIMHOLDI_PID_OUT : GRIMHOLDI_PID_IN,
+                                  GRIMHOLDI_TRANSFER_BULK, 0, 0, address,
+                                  ENDPOINT, payload, out ? sizeof payload : 0),
+               GRIMHOLDI_DONE);
+        break;
+    case LAUNCH:
+        expect(calls->launch(area, area_len, reply, sizeof reply),
+               GRIMHOLDI_DATA);
+        break;
+    case DELIVER:
+        expect(calls->deliver(area, area_len,
+                              out ? GRIMHOLDI_RESULT_ACK
+                                  : GRIMHOLDI_RESULT_DATA0,
+                              payload, out ? 0 : sizeof payload),
+               GRIMHOLDI_DONE);
+        break;
+    case COMPLETE:
+        expect(calls->complete_split(area, area_len, address, ENDPOINT,
+                                     out ? GRIMHOLDI_DIRECTION_OUT
+                                         : GRIMHOLDI_DIRECTION_IN,
+                                     reply, sizeof reply),
+               out ? GRIMHOLDI_HANDSHAKE : GRIMHOLDI_DATA);
+        break;
+    }
+}
+
+static void set_up(int out)
+{
+    uint32_t i;
+    int which;
+
+    area_len = calls->area_length(ports, buffers);
+    expect(calls->new_hub(area, area_len, ports, buffers, 50, 100, 0),
+           GRIMHOLDI_DONE);
+    expect(request(GRIMHOLDI_TYPE_SET_CONFIGURATION,
+                   GRIMHOLDI_REQUEST_SET_CONFIGURATION, 1, 0, 0),
+           GRIMHOLDI_DONE);
+    for (i = 1; i <= ports; i++) {
+        expect(request(GRIMHOLDI_TYPE_SET_PORT, GRIMHOLDI_REQUEST_SET_FEATURE,
+                       GRIMHOLDI_PORT_POWER, (uint8_t)i, 0), GRIMHOLDI_DONE);
+        expect(calls->line_event(area, area_len, GRIMHOLDI_EVENT_ATTACH_FULL,
+                                 i), GRIMHOLDI_DONE);
+        expect(request(GRIMHOLDI_TYPE_SET_PORT, GRIMHOLDI_REQUEST_SET_FEATURE,
+                       GRIMHOLDI_PORT_RESET, (uint8_t)i, 0), GRIMHOLDI_DONE);
+    }
+    for (i = 0; i < GRIMHOLDI_RESET_TICKS; i++)
+        expect(calls->tick(area, area_len), GRIMHOLDI_DONE);
+
+    /* One whole transaction in buffer 0, then results in the others. */
+    memset(payload, 0x5A, sizeof payload);
+    for (which = START; which < STAGES; which++) {
+        if (which == LAUNCH)
+            for (i = 1; i < buffers; i++)
+                stage(START, 0, OTHER_ADDRESS + i);
+        stage(which, out, ADDRESS);
+    }
+    for (i = 1; i < buffers; i++) {
+        stage(LAUNCH, 0, 0);
+        stage(DELIVER, 0, 0);
+    }
+}
+
+static int is(const char *word, const char *other)
+{
+    return strcmp(word, other) == 0;
+}
+
+/* What to measure: one of the stages, or one of these. */
+enum { TRANSACTION = STAGES, RESTORE, POLL, STATUS, TICK, UNKNOWN };
+
+static int named(const char *what)
+{
+    static const struct {
+        const char *name;
+        int kind;
+    } names[] = {
+        {"in", TRANSACTION},      {"out", TRANSACTION},
+        {"in-start", START},      {"out-start", START},
+        {"in-launch", LAUNCH},    {"out-launch", LAUNCH},
+        {"in-deliver", DELIVER},  {"out-deliver", DELIVER},
+        {"in-complete", COMPLETE}, {"out-complete", COMPLETE},
+        {"restore", RESTORE},     {"poll", POLL},
+        {"status", STATUS},       {"tick", TICK}
+    };
+    size_t i;
+
+    for (i = 0; i < sizeof names / sizeof *names; i++)
+        if (is(what, names[i].name))
+            return names[i].kind;
+    return UNKNOWN;
+}
+
+static void measure(int kind, int out, long loops)
+{
+    uint8_t saved[GRIMHOLDI_AREA_LENGTH_MAX];
+    int which;
+
+    if (kind < STAGES)
+        for (which = START; which < kind; which++)
+            stage(which, out, ADDRESS);
+    memcpy(saved, area, area_len);
+
+    while (loops-- > 0) {
+        switch (kind) {
+        case TRANSACTION:
+            for (which = START; which < STAGES; which++)
+                stage(which, out, ADDRESS);
+            break;
+        case RESTORE:
+            memcpy(area, saved, area_len);
+            break;
+        case POLL:
+            expect(calls->poll(area, area_len, reply, sizeof reply),
+                   GRIMHOLDI_DATA);
+            break;
+        case STATUS:
+            expect(request(GRIMHOLDI_TYPE_GET_PORT,
+                           GRIMHOLDI_REQUEST_GET_STATUS, 0, (uint8_t)ports, 4),
+                   GRIMHOLDI_DATA);
+            break;
+        case TICK:
+            expect(calls->tick(area, area_len), GRIMHOLDI_DONE);
+            break;
+        default:
+            memcpy(area, saved, area_len);
+            stage(kind, out, ADDRESS);
+            break;
+        }
+    }
+}
+
+int main(int argc, char **argv)
+{
+    const int kind = argc == 6 ? named(argv[2]) : UNKNOWN;
+    int out;
+
+    if (kind == UNKNOWN
+        || !(is(argv[1], "library") || is(argv[1], "inplace"))) {
+        fprintf(stderr,
+                "usage: speed library|inplace WHAT PORTS BUFFERS LOOPS\n");
+        return 2;
+    }
+    calls = is(argv[1], "library") ? &library_calls : &inplace_calls;
+    ports = (uint32_t)atoi(argv[3]);
+    buffers = (uint32_t)atoi(argv[4]);
+    out = strncmp(argv[2], "out", 3) == 0;
+    set_up(out);
+    measure(kind, out, atol(argv[5]));
+    return 0;
+}
