@@ -2,7 +2,7 @@
 use mathlib.Core.Path.{_≡_, refl, sym, ap, _∙_}
 use mathlib.Core.List.{List, [], _∷_, _++_}
 use mathlib.Core.Bool.{Bool, true, false, cond, _&&_, _||_, and-eq-true-iff}
-use Prim.Native.Nat.{ℕ, zero, suc, _+_, _-_, _≤_, _<_}
+use Prim.Native.Nat.{ℕ, _+_, _-_, _≤_}
 use native.Mathlib.Omega.{arith}
 use lib.ListN.{length, getD, take, drop, replicate, length-append, length-take, length-drop, length-replicate, take-append-drop}
 use lib.Seq.{length-take-le, take-all, drop-at, drop-drop}
@@ -27,10 +27,11 @@ use Rattle.translator.proofs.Kept.{start-le, result-le}
 use Rattle.numbers.specs.Named.{isPid, pidFrom, isType, typeFrom, isResult, resultFrom}
 use Rattle.numbers.specs.Written.{typeNumber, resultWritten}
 use Rattle.numbers.proofs.Laws.{numbers-claims}
-use Rattle.area.specs.Rows.{blank}
+use Rattle.taken.specs.Rows.{blank}
 use Rattle.area.specs.Written.{heldBytes, slotBytes, bufferBytes}
-use Rattle.area.specs.Read.{heldSplit, slotNamed, slotOf, bufferOf, emptyFits, heldFits, namesFit, bufferFits}
-use Rattle.area.proofs.Rows.{blank-to, blank-of}
+use Rattle.taken.specs.Read.{heldSplit, slotNamed, slotOf, bufferOf, emptyFits, heldFits, namesFit, bufferFits}
+use Rattle.taken.proofs.Rows.{blank-to, blank-of}
+use Rattle.taken.proofs.Parts.{three}
 use Rattle.area.proofs.Ports.{bits-whole}
 
 -- ---- numbers and names
@@ -113,13 +114,6 @@ first-eight (a ∷ b ∷ c ∷ d ∷ e ∷ []) h = absurd (omega arith)
 first-eight (a ∷ b ∷ c ∷ d ∷ e ∷ f ∷ []) h = absurd (omega arith)
 first-eight (a ∷ b ∷ c ∷ d ∷ e ∷ f ∷ g ∷ []) h = absurd (omega arith)
 first-eight (a ∷ b ∷ c ∷ d ∷ e ∷ f ∷ g ∷ i ∷ l) h = refl
-
-three : (P : ℕ → Type 0) → P 1 → P 2 → P 3 → (n : ℕ) → n < 4 → ¬ (n ≡ 0) → P n
-three P a b c zero h d = absurd (d refl)
-three P a b c (suc zero) h d = a
-three P a b c (suc (suc zero)) h d = b
-three P a b c (suc (suc (suc zero))) h d = c
-three P a b c (suc (suc (suc (suc n)))) h d = absurd (omega (arith, h))
 
 module _ (l : List ℕ) where
   empty-to : getD l 0 0 ≡ 0 → emptyFits (getD l 1 0) (getD l 2 0) (getD l 3 0) (getD l 4 0) (getD l 5 0) (getD l 6 0) ≡ true

@@ -2,7 +2,7 @@
 use mathlib.Core.Path.{_≡_, refl, sym, ap, subst, _∙_}
 use mathlib.Core.List.{List, [], _∷_, _++_}
 use mathlib.Core.Bool.{Bool, true, false, false≢true, cond, not, _&&_, and-eq-true-iff}
-use Prim.Native.Nat.{ℕ, zero, suc, _+_, _-_, _*_, _≤_, _<_, min}
+use Prim.Native.Nat.{ℕ, zero, suc, _+_, _*_, _≤_, _<_, min}
 use native.Mathlib.Omega.{arith}
 use lib.ListN.{length, getD, take, drop, length-append, length-drop, take-append-drop}
 use lib.Seq.{take-at, drop-at, take-length, take-all, length-take-le, drop-drop}
@@ -18,18 +18,21 @@ use Rattle.buffer.specs.declared.Buffer.{Buffer}
 use Rattle.buffer.specs.Buffer.{vacant}
 use Rattle.buffer.specs.Valid.{Whole}
 use Rattle.translator.specs.declared.LowSide.{LowSide}
+use Rattle.translator.specs.Slots.{slotsIn}
 use Rattle.translator.specs.Valid.{ValidTranslator}
 use Rattle.hub.specs.declared.Identity.{Identity}
 use Rattle.hub.specs.declared.Hub.{Hub}
 use Rattle.hub.specs.Valid.{ValidHub, isNotConfigured}
 use Rattle.area.specs.declared.Read.{Read}
-use Rattle.area.specs.Rows.{flat, parts, every}
+use Rattle.taken.specs.Rows.{flat, parts, every}
 use Rattle.area.specs.Written.{portBytes, bufferBytes, headBytes, written, areaLength, writtenOver}
-use Rattle.area.specs.Read.{portOf, bufferOf, lowOf, noPorts, noBuffers, portsOf, buffersOf, slotsIn, portPart, bufferPart, decoded}
-use Rattle.area.specs.Read.{portFits, bufferFits, clashing, runs, headFits, sized, rowsFit, accepts, refusal, readOf}
+use Rattle.taken.specs.Read.{portOf, bufferOf, lowOf, noPorts, noBuffers, portsOf, buffersOf, portPart, bufferPart, decoded}
+use Rattle.taken.specs.Read.{portFits, bufferFits, clashing, runs, headFits, sized, rowsFit, accepts}
+use Rattle.area.specs.Read.{refusal, readOf}
 use Rattle.area.specs.Claims.{AreaExact}
-use Rattle.area.proofs.Rows.{All, all-map, all-take, row-each, row-used, row-spare, row-long, row-tail, parts-length, Kept, flat-length, parts-flat, every-to, every-of}
-use Rattle.area.proofs.Area.{Counts, counts, headed, Sized, sized-to}
+use Rattle.taken.proofs.Rows.{All, all-map, all-take, row-each, row-used, row-spare, row-long, row-tail, parts-length, Kept, flat-length, parts-flat, every-to, every-of}
+use Rattle.taken.proofs.Sized.{Counts, counts, headed, Sized, sized-to}
+use Rattle.taken.proofs.Ties.{vacant-buffers, four-long}
 use Rattle.area.proofs.Ports.{PortValid, port-again, port-size, port-to, port-of}
 use Rattle.area.proofs.Buffers.{first-eight, buffer-size, buffer-again, buffer-to, buffer-of}
 use Rattle.area.proofs.Ties.{keys-to, places-to, clashing-from, runs-to, runs-of, low-again, low-of, low-back}
@@ -43,14 +46,6 @@ new-ports = (refl, (refl, (refl, (refl, (refl, (refl, (refl, tt)))))))
 seven-long : length noPorts ≡ 7
 unfolding noPorts
 seven-long = refl
-
-vacant-buffers : All (λ (b : Buffer). b ≡ vacant) noBuffers
-unfolding All noBuffers
-vacant-buffers = (refl, (refl, (refl, (refl, tt))))
-
-four-long : length noBuffers ≡ 4
-unfolding noBuffers
-four-long = refl
 
 vacant-whole : Whole vacant
 unfolding padded

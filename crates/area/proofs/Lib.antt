@@ -1,8 +1,6 @@
-pub mod Rows
 pub mod Parts
 pub mod Area
 pub mod Ports
 pub mod Buffers
 pub mod Ties
 pub mod Exact
-pub mod Anew

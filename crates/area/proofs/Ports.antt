@@ -18,7 +18,7 @@ use Rattle.port.proofs.Bits.{bits-back}
 use Rattle.translator.proofs.Lists.{four}
 use Rattle.hub.specs.Valid.{isNotConfigured}
 use Rattle.area.specs.Written.{stateByte, speedNumber, speedByte, ticksByte, marksByte, portBytes}
-use Rattle.area.specs.Read.{isOdd, speedOf, stateOf, markedPort, portOf, speedsOf, endOf, agrees, stateFits, portFits}
+use Rattle.taken.specs.Read.{isOdd, speedOf, stateOf, markedPort, portOf, speedsOf, endOf, agrees, stateFits, portFits}
 
 -- ---- bits
 

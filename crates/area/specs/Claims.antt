@@ -1,20 +1,14 @@
 -- Acceptance is exact. A reader must believe: `written` is the layout, `ValidHub` is document 01's list, and `read_area` and `write_area`
 -- are `readOf` and `writtenOver`, as their contracts say.
-use Prim.Native.Nat.{ℕ, _<_}
+use Prim.Native.Nat.{ℕ}
 use mathlib.Core.Path.{_≡_}
-use mathlib.Core.Bool.{Bool, true, false}
+use mathlib.Core.Bool.{true, false}
 use mathlib.Core.List.{List}
 use mathlib.Core.Logic.{_↔_}
-use lib.ListN.{length, set}
-use Rattle.port.specs.declared.Port.{Port}
-use Rattle.buffer.specs.declared.Buffer.{Buffer}
-use Rattle.buffer.specs.declared.BufferNumber.{BufferNumber}
-use Rattle.translator.specs.declared.LowSide.{LowSide}
-use Rattle.translator.specs.Translator.{withBuffer, withLow}
+use lib.ListN.{length}
 use Rattle.hub.specs.declared.Hub.{Hub}
-use Rattle.hub.specs.Hub.{withPorts, withTranslator}
 use Rattle.hub.specs.Valid.{ValidHub}
-use Rattle.area.specs.Written.{written, areaLength, writtenOver, headOver, portOver, bufferOver}
+use Rattle.area.specs.Written.{written, areaLength, writtenOver}
 use Rattle.area.specs.Read.{readOf}
 
 pub record AreaExact : Type 0 where
@@ -30,12 +24,3 @@ pub record AreaExact : Type 0 where
   -- writing over an area of that length gives the written form, and over any other changes nothing
   pub writes : (h : Hub) (a : List ℕ) → ValidHub h → length a ≡ areaLength (h .identity .ports) (h .translator .count) → writtenOver h a ≡ written h
   pub keeps : (h : Hub) (a : List ℕ) → ValidHub h → ¬ (length a ≡ areaLength (h .identity .ports) (h .translator .count)) → writtenOver h a ≡ a
-
--- Writing only what changed gives the written form of the changed hub.
-pub record PartsExact : Type 0 where
-  pub head : (h : Hub) (configured : Bool) (low : LowSide) → ValidHub h
-      → headOver (h .identity) configured (h .translator .count) low (written h)
-      ≡ written (record { identity = h .identity; configured = configured; ports = h .ports; translator = withLow (h .translator) low })
-  pub port : (h : Hub) (i : ℕ) (p : Port) → ValidHub h → i < h .identity .ports → portOver i p (written h) ≡ written (withPorts h (set (h .ports) i p))
-  pub buffer : (h : Hub) (n : BufferNumber) (b : Buffer) → ValidHub h → n .0 < h .translator .count
-      → bufferOver (h .identity .ports) n b (written h) ≡ written (withTranslator h (withBuffer (h .translator) n b))

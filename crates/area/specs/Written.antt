@@ -3,7 +3,7 @@
 use Prim.Native.Nat.{ℕ, _+_, _*_, min}
 use mathlib.Core.List.{List, [], _∷_, _++_}
 use mathlib.Core.Bool.{Bool, cond, _&&_}
-use lib.ListN.{length, take, drop}
+use lib.ListN.{length, take}
 use lib.Dec.{eqb, leb}
 use Rattle.port.specs.declared.Speed.{Speed}
 use Rattle.port.specs.declared.Speed.the-variants.{Low, Full, High}
@@ -15,14 +15,13 @@ use Rattle.buffer.specs.declared.StartSplit.{StartSplit}
 use Rattle.buffer.specs.declared.Slot.{Slot}
 use Rattle.buffer.specs.declared.Slot.the-variants.{Empty, Pending, Ready, Old}
 use Rattle.buffer.specs.declared.Buffer.{Buffer}
-use Rattle.buffer.specs.declared.BufferNumber.{BufferNumber}
 use Rattle.translator.specs.declared.LowSide.{LowSide}
 use Rattle.translator.specs.declared.LowSide.the-variants.{Idle, Running, Abandoned}
 use Rattle.translator.specs.Answers.{pidNumber}
 use Rattle.numbers.specs.Written.{typeNumber, resultWritten}
 use Rattle.hub.specs.declared.Identity.{Identity}
 use Rattle.hub.specs.declared.Hub.{Hub}
-use Rattle.area.specs.Rows.{flat}
+use Rattle.taken.specs.Rows.{flat}
 
 -- ---- a port, 4 bytes
 
@@ -127,21 +126,3 @@ areaLength n b = cond ((leb 1 n && leb n 7) && (leb 2 b && leb b 4)) (8 + n * 4 
 -- ports and four for buffers, whatever its numbers say
 unfoldable pub writtenOver : Hub → List ℕ → List ℕ
 writtenOver h a = cond (eqb (length a) (8 + min (h .identity .ports) 7 * 4 + min (h .translator .count) 4 * 72)) (written h) a
-
--- ---- a part written anew
-
--- k bytes from n on are p now
-abbrev pub placed : ℕ → ℕ → List ℕ → List ℕ → List ℕ
-placed n k p a = take n a ++ (p ++ drop (n + k) a)
-
--- the area with these first 8 bytes, if it has as many
-unfoldable pub headOver : Identity → Bool → ℕ → LowSide → List ℕ → List ℕ
-headOver i configured b low a = cond (leb 8 (length a)) (placed 0 8 (headBytes i configured b low) a) a
-
--- the area with this port, counted from 0, if it has its bytes
-unfoldable pub portOver : ℕ → Port → List ℕ → List ℕ
-portOver i p a = cond (leb (8 + i * 4 + 4) (length a)) (placed (8 + i * 4) 4 (portBytes p) a) a
-
--- the area of a hub of n ports with this buffer, if it has its bytes
-unfoldable pub bufferOver : ℕ → BufferNumber → Buffer → List ℕ → List ℕ
-bufferOver n i b a = cond (leb (8 + n * 4 + i .0 * 72 + 72) (length a)) (placed (8 + n * 4 + i .0 * 72) 72 (bufferBytes b) a) a

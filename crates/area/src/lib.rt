@@ -1,80 +1,19 @@
 // The written form of a hub in a lent byte area: its length, reading and writing.
 ghost use mathlib.Core.Path.{_≡_};
-ghost use mathlib.Core.Bool.{_&&_};
 ghost use mathlib.Core.List.{[], _∷_};
-ghost use Prim.Native.Nat.{_+_, _*_, _^_, _≤_, _<_, min};
-ghost use lib.Dec.{eqb, leb, ltb};
-ghost use lib.ListN.{length, getD, take, drop};
+ghost use Prim.Native.Nat.{_+_, _*_, _≤_, min};
+ghost use lib.ListN.{length, getD, take};
 ghost use Rattle.port.specs.Status.{bit, byteOf};
-ghost use Rattle.buffer.specs.Buffer.{isPending, holds};
-ghost use Rattle.buffer.specs.Lengths.{numbersFit, resultLength, suits};
-ghost use Rattle.buffer.specs.Valid.{slotFits};
-ghost use Rattle.translator.specs.Answers.{pidNumber};
-ghost use Rattle.translator.specs.Order.{atPlace};
-ghost use Rattle.numbers.specs.Named.{isPid, pidFrom, isType, typeFrom, isResult, resultFrom};
-ghost use Rattle.numbers.specs.Written.{typeNumber, resultWritten};
-ghost use Rattle.hub.specs.Hub.{newFits};
-ghost use Rattle.area.specs.Rows.{flat, every, blank};
-ghost use Rattle.area.specs.Written.{
-  stateByte,
-  speedNumber,
-  speedByte,
-  ticksByte,
-  marksByte,
-  portBytes,
-  heldBytes,
-  slotBytes,
-  bufferBytes,
-  lowByte,
-  runningByte,
-  headBytes,
-  areaLength,
-  writtenOver,
-  headOver,
-  portOver,
-  bufferOver,
-};
-ghost use Rattle.area.specs.Read.{
-  speedOf,
-  stateOf,
-  markedPort,
-  portOf,
-  heldSplit,
-  slotOf,
-  bufferOf,
-  lowOf,
-  portsOf,
-  buffersOf,
-  slotsIn,
-  bufferPart,
-  decoded,
-  speedsOf,
-  endOf,
-  agrees,
-  stateFits,
-  portFits,
-  emptyFits,
-  heldFits,
-  namesFit,
-  bufferFits,
-  isEmpty,
-  clash,
-  clashing,
-  runs,
-  lowFits,
-  headFits,
-  sized,
-  rowsFit,
-  accepts,
-  refusal,
-  readOf,
-};
-ghost use Rattle.area.specs.Claims.{AreaExact, PartsExact};
+ghost use Rattle.numbers.specs.Named.{pidFrom, typeFrom, resultFrom};
+ghost use Rattle.taken.specs.Rows.{flat};
+ghost use Rattle.area.specs.Written.{stateByte, speedNumber, speedByte, ticksByte, marksByte, portBytes, heldBytes, slotBytes, bufferBytes, lowByte, runningByte, headBytes, areaLength, writtenOver};
+ghost use Rattle.taken.specs.Read.{speedOf, stateOf, markedPort, portOf, heldSplit, slotOf, bufferOf, lowOf, portsOf, buffersOf, decoded};
+ghost use Rattle.area.specs.Read.{refusal, readOf};
+ghost use Rattle.area.specs.Claims.{AreaExact};
 use buffer::Buffer;
 use buffer::BufferNumber;
 use buffer::DeviceAddress;
 use buffer::DeviceResult;
-use buffer::Key;
 use buffer::Pid;
 use buffer::Slot;
 use buffer::StartSplit;
@@ -97,26 +36,11 @@ pub struct Read {
 
 // ---- bytes
 
-fn fill(dst: &mut [u8], src: &[u8])
+pub fn fill(dst: &mut [u8], src: &[u8])
     requires { ⌜ length (now src) ≡ length (now dst) ⌝ }
     ensures { λ _. ⌜ now (dst .exit) ≡ now (src .entry) ⌝ }
 {
     bytes::copy(src, dst);
-}
-
-// Zeros alone from a place on. No early end, so that the loop can go several bytes at a time.
-fn blank_from(area: &[u8], start: usize) -> bool
-    ensures { λ r. ⌜ r ≡ blank (drop start (now (area .entry))) ⌝ }
-{
-    let mut ok = true;
-    let mut i: usize = start;
-    while i < area.len() {
-        if area[i] != 0 {
-            ok = false;
-        }
-        i += 1;
-    }
-    ok
 }
 
 fn bit_of(b: bool) -> u8
@@ -262,53 +186,6 @@ fn port_bytes(p: Port) -> [u8; 4]
     [state_byte(s), speed_byte(s), ticks_byte(s), marks_byte(p)]
 }
 
-fn speeds_of(n: u8) -> u8
-    ensures { λ r. ⌜ r ≡ speedsOf n ⌝ }
-{
-    if n < 3 {
-        return 1;
-    }
-    if n < 8 { 3 } else { 0 }
-}
-
-// Timers are below their ends.
-fn end_of(n: u8) -> u8
-    ensures { λ r. ⌜ r ≡ endOf n ⌝ }
-{
-    match n {
-        4 => 15,
-        7 => 22,
-        _ => 1,
-    }
-}
-
-// Every port is Not Configured if the hub is unconfigured, else none.
-fn agree(unconfigured: bool, configured: bool) -> bool
-    ensures { λ r. ⌜ r ≡ agrees unconfigured configured ⌝ }
-{
-    if unconfigured {
-        !configured
-    } else {
-        configured
-    }
-}
-
-fn state_fits(configured: bool, s: u8, v: u8, t: u8) -> bool
-    ensures { λ r. ⌜ r ≡ stateFits configured s v t ⌝ }
-{
-    logic::both(
-        logic::both(v < speeds_of(s), t < end_of(s)),
-        agree(s == 0, configured),
-    )
-}
-
-fn port_fits(b: &[u8], configured: bool) -> bool
-    requires { ⌜ length (now b) ≡ 4 ⌝ }
-    ensures { λ r. ⌜ r ≡ portFits configured (now (b .entry)) ⌝ }
-{
-    logic::both(state_fits(configured, b[0], b[1], b[2]), b[3] < 64)
-}
-
 // ---- one buffer, 72 bytes
 
 fn pid_of(n: u8) -> Pid
@@ -345,7 +222,7 @@ fn held_split(b: &[u8]) -> StartSplit
     }
 }
 
-fn slot_of(b: &[u8]) -> Slot
+pub fn slot_of(b: &[u8]) -> Slot
     requires { ⌜ length (now b) ≡ 72 ⌝ }
     ensures { λ r. ⌜ r ≡ slotOf (now (b .entry)) ⌝ }
 {
@@ -359,7 +236,7 @@ fn slot_of(b: &[u8]) -> Slot
     }
 }
 
-fn buffer_of(b: &[u8]) -> Buffer
+pub fn buffer_of(b: &[u8]) -> Buffer
     requires { ⌜ length (now b) ≡ 72 ⌝ }
     ensures { λ r. ⌜ r ≡ bufferOf (now (b .entry)) ⌝ }
 {
@@ -408,7 +285,7 @@ fn slot_bytes(slot: Slot, len: u8) -> [u8; 8]
     }
 }
 
-fn put_buffer(out: &mut [u8], b: Buffer)
+pub fn put_buffer(out: &mut [u8], b: Buffer)
     requires { ⌜ length (now out) ≡ 72 ⌝ }
     ensures { λ _. ⌜ now (out .exit) ≡ bufferBytes b ⌝ }
 {
@@ -420,229 +297,7 @@ fn put_buffer(out: &mut [u8], b: Buffer)
     fill(&mut out[8..72], &bytes);
 }
 
-fn pid_named(n: u8) -> bool
-    ensures { λ r. ⌜ r ≡ isPid n ⌝ }
-{
-    numbers::is_pid(n as u32)
-}
-
-fn type_named(n: u8) -> bool
-    ensures { λ r. ⌜ r ≡ isType n ⌝ }
-{
-    numbers::is_type(n as u32)
-}
-
-fn result_named(n: u8) -> bool
-    ensures { λ r. ⌜ r ≡ isResult n ⌝ }
-{
-    numbers::is_result(n as u32)
-}
-
-fn empty_fits(p: u8, t: u8, f: u8, a: u8, e: u8, last: u8) -> bool
-    ensures { λ r. ⌜ r ≡ emptyFits p t f a e last ⌝ }
-{
-    logic::both(
-        logic::both(p == 0, logic::both(t == 0, f == 0)),
-        logic::both(a == 0, logic::both(e == 0, last == 0)),
-    )
-}
-
-fn held_fits(s: u8, p: u8, t: u8, f: u8, last: u8) -> bool
-    ensures { λ r. ⌜ r ≡ heldFits s p t f last ⌝ }
-{
-    logic::both(
-        logic::both(s < 4, logic::both(pid_named(p), type_named(t))),
-        logic::both(f < 4, logic::either(s == 1, result_named(last))),
-    )
-}
-
-fn names_fit(b: &[u8]) -> bool
-    requires { ⌜ length (now b) ≡ 72 ⌝ }
-    ensures { λ r. ⌜ r ≡ namesFit (now (b .entry)) ⌝ }
-{
-    if b[0] == 0 {
-        empty_fits(b[1], b[2], b[3], b[4], b[5], b[6])
-    } else {
-        held_fits(b[0], b[1], b[2], b[3], b[6])
-    }
-}
-
-fn result_fits(split: StartSplit, result: DeviceResult, len: u8) -> bool
-    ensures { λ r. ⌜ r ≡ (numbersFit split && (suits (split .pid) result && resultLength result len)) ⌝ }
-{
-    let pid = split.pid;
-    logic::both(
-        split.has_numbers(),
-        logic::both(result.suits(pid), result.carries(len as usize)),
-    )
-}
-
-fn slot_fits(slot: Slot, len: u8) -> bool
-    ensures { λ r. ⌜ r ≡ slotFits slot len ⌝ }
-{
-    match slot {
-        Slot::Empty => len == 0,
-        Slot::Pending(split, _) => split.fits(len as usize),
-        Slot::Ready(split, result) => result_fits(split, result, len),
-        Slot::Old(split, result) => result_fits(split, result, len),
-    }
-}
-
-fn behind(len: u8) -> usize
-    ensures { λ r. ⌜ r ≡ 8 + len ⌝ }
-{
-    8 + len as usize
-}
-
-fn buffer_fits(b: &[u8], slot: Slot) -> bool
-    requires { ⌜ (length (now b) ≡ 72) × (slot ≡ slotOf (now b)) ⌝ }
-    ensures { λ r. ⌜ r ≡ bufferFits (now (b .entry)) ⌝ }
-{
-    let len = b[7];
-    let end = behind(len);
-    logic::both(
-        logic::both(names_fit(b), slot_fits(slot, len)),
-        blank_from(b, end),
-    )
-}
-
-// ---- the buffers among each other
-
-fn is_pending(slot: Slot) -> bool
-    ensures { λ r. ⌜ r ≡ isPending slot ⌝ }
-{
-    match slot {
-        Slot::Empty => false,
-        Slot::Pending(_, _) => true,
-        Slot::Ready(_, _) => false,
-        Slot::Old(_, _) => false,
-    }
-}
-
-fn is_empty(slot: Slot) -> bool
-    ensures { λ r. ⌜ r ≡ isEmpty slot ⌝ }
-{
-    match slot {
-        Slot::Empty => true,
-        Slot::Pending(_, _) => false,
-        Slot::Ready(_, _) => false,
-        Slot::Old(_, _) => false,
-    }
-}
-
-fn holds_key(slot: Slot, key: Key) -> bool
-    ensures { λ r. ⌜ r ≡ holds key slot ⌝ }
-{
-    match slot {
-        Slot::Empty => false,
-        Slot::Pending(split, _) => split.is_for(key),
-        Slot::Ready(split, _) => split.is_for(key),
-        Slot::Old(split, _) => split.is_for(key),
-    }
-}
-
-fn at_place(slot: Slot, place: u8) -> bool
-    ensures { λ r. ⌜ r ≡ atPlace place slot ⌝ }
-{
-    match slot {
-        Slot::Empty => false,
-        Slot::Pending(_, other) => other == place,
-        Slot::Ready(_, _) => false,
-        Slot::Old(_, _) => false,
-    }
-}
-
-// Whether two buffers have one key, or one place.
-fn clash(x: Slot, y: Slot) -> bool
-    ensures { λ r. ⌜ r ≡ clash x y ⌝ }
-{
-    match x {
-        Slot::Empty => false,
-        Slot::Pending(split, place) => logic::either(holds_key(y, split.key()), at_place(y, place)),
-        Slot::Ready(split, _) => holds_key(y, split.key()),
-        Slot::Old(split, _) => holds_key(y, split.key()),
-    }
-}
-
-fn clashing(slots: [Slot; 4]) -> bool
-    ensures { λ r. ⌜ r ≡ clashing slots ⌝ }
-{
-    let a = slots[0];
-    let b = slots[1];
-    let c = slots[2];
-    let d = slots[3];
-    if logic::both(is_empty(c), is_empty(d)) {
-        return clash(a, b);
-    }
-    logic::either(
-        logic::either(clash(a, b), logic::either(clash(a, c), clash(a, d))),
-        logic::either(logic::either(clash(b, c), clash(b, d)), clash(c, d)),
-    )
-}
-
-fn slots_in(hub: Hub) -> [Slot; 4]
-    ensures { λ r. ⌜ r ≡ slotsIn (hub .translator .buffers) ⌝ }
-{
-    let translator = hub.translator;
-    let buffers = translator.buffers;
-    let a = buffers[0];
-    let b = buffers[1];
-    let c = buffers[2];
-    let d = buffers[3];
-    let w = a.slot;
-    let x = b.slot;
-    let y = c.slot;
-    let z = d.slot;
-    [w, x, y, z]
-}
-
-// A running buffer is pending.
-fn runs(slots: [Slot; 4], low: u8, running: u8) -> bool
-    ensures { λ r. ⌜ r ≡ runs slots low running ⌝ }
-{
-    if low == 1 {
-        let i = running as usize;
-        if i < 4 {
-            let slot = slots[i];
-            return is_pending(slot);
-        }
-        return false;
-    }
-    true
-}
-
 // ---- rows of ports and buffers
-
-fn ports_fit(b: &[u8], n: usize, configured: bool) -> bool
-    requires { ⌜ (n ≤ 7) × (length (now b) ≡ n * 4) ⌝ }
-    ensures { λ r. ⌜ r ≡ every (portFits configured) 4 n (now (b .entry)) ⌝ }
-{
-    let mut ok = true;
-    let mut i: usize = 0;
-    while i < n {
-        let at = i * 4;
-        let end = at + 4;
-        ok = logic::both(ok, port_fits(&b[at..end], configured));
-        i += 1;
-    }
-    ok
-}
-
-fn buffers_fit(b: &[u8], slots: [Slot; 4], n: usize) -> bool
-    requires { ⌜ (n ≤ 4) × (length (now b) ≡ n * 72) × (slots ≡ slotsIn (buffersOf n (now b))) ⌝ }
-    ensures { λ r. ⌜ r ≡ every bufferFits 72 n (now (b .entry)) ⌝ }
-{
-    let mut ok = true;
-    let mut i: usize = 0;
-    while i < n {
-        let at = i * 72;
-        let end = at + 72;
-        let slot = slots[i];
-        ok = logic::both(ok, buffer_fits(&b[at..end], slot));
-        i += 1;
-    }
-    ok
-}
 
 fn get_ports(b: &[u8], n: usize) -> [Port; 7]
     requires { ⌜ (n ≤ 7) × (length (now b) ≡ n * 4) ⌝ }
@@ -703,7 +358,7 @@ fn put_buffers(out: &mut [u8], buffers: [Buffer; 4], n: usize)
 
 // ---- the hub
 
-fn low_of(k: u8, n: u8) -> LowSide
+pub fn low_of(k: u8, n: u8) -> LowSide
     ensures { λ r. ⌜ r ≡ lowOf k n ⌝ }
 {
     match k {
@@ -713,7 +368,7 @@ fn low_of(k: u8, n: u8) -> LowSide
     }
 }
 
-fn low_byte(low: LowSide) -> u8
+pub fn low_byte(low: LowSide) -> u8
     ensures { λ r. ⌜ r ≡ lowByte low ⌝ }
 {
     match low {
@@ -723,7 +378,7 @@ fn low_byte(low: LowSide) -> u8
     }
 }
 
-fn running_byte(low: LowSide) -> u8
+pub fn running_byte(low: LowSide) -> u8
     ensures { λ r. ⌜ r ≡ runningByte low ⌝ }
 {
     match low {
@@ -765,88 +420,6 @@ pub fn area_length(ports: u32, buffers: u32) -> usize
         return 0;
     }
     8 + (ports as usize) * 4 + (buffers as usize) * 72
-}
-
-// A removable byte has no bit above N.
-fn removable_fits(n: u8, removable: u8) -> bool
-    requires { ⌜ n ≤ 7 ⌝ }
-    ensures { λ r. ⌜ r ≡ ltb removable (2 ^ (n + 1)) ⌝ }
-{
-    match n {
-        0 => removable < 2,
-        1 => removable < 4,
-        2 => removable < 8,
-        3 => removable < 16,
-        4 => removable < 32,
-        5 => removable < 64,
-        6 => removable < 128,
-        _ => true,
-    }
-}
-
-fn numbers_fit(n: u8, b: u8, powergood: u8, current: u8, removable: u8) -> bool
-    ensures { λ r. ⌜ r ≡ newFits n b powergood current removable ⌝ }
-{
-    if 7 < n {
-        return false;
-    }
-    logic::both(
-        logic::both(logic::both(1 <= n, n <= 7), logic::both(2 <= b, b <= 4)),
-        logic::both(removable % 2 == 0, removable_fits(n, removable)),
-    )
-}
-
-fn low_fits(k: u8, n: u8) -> bool
-    ensures { λ r. ⌜ r ≡ lowFits k n ⌝ }
-{
-    logic::either(k == 1, logic::both(k < 3, n == 0))
-}
-
-fn head_fits(area: &[u8]) -> bool
-    requires { ⌜ 8 ≤ length (now area) ⌝ }
-    ensures { λ r. ⌜ r ≡ headFits (now (area .entry)) ⌝ }
-{
-    logic::both(
-        numbers_fit(area[0], area[1], area[2], area[3], area[4]),
-        logic::both(area[5] < 2, low_fits(area[6], area[7])),
-    )
-}
-
-fn size_of(n: u8, b: u8) -> usize
-    ensures { λ r. ⌜ r ≡ 8 + n * 4 + b * 72 ⌝ }
-{
-    8 + (n as usize) * 4 + (b as usize) * 72
-}
-
-// Whether the first bytes are within the rules, and the length is the one that they say.
-fn is_sized(area: &[u8]) -> bool
-    ensures { λ r. ⌜ r ≡ sized (now (area .entry)) ⌝ }
-{
-    let size = area.len();
-    if size < 8 {
-        return false;
-    }
-    logic::both(head_fits(area), size == size_of(area[0], area[1]))
-}
-
-fn rows_fit(area: &[u8], slots: [Slot; 4]) -> bool
-    requires { ⌜ (8 ≤ length (now area)) × (getD (now area) 0 0 ≤ 7) × (getD (now area) 1 0 ≤ 4) × (length (now area) ≡ 8 + getD (now area) 0 0 * 4 + getD (now area) 1 0 * 72) ⌝ }
-    requires slots { ⌜ slots ≡ slotsIn (buffersOf (getD (now area) 1 0) (bufferPart (now area))) ⌝ }
-    ensures { λ r. ⌜ r ≡ rowsFit (now (area .entry)) ⌝ }
-{
-    let n = area[0] as usize;
-    let m = area[1] as usize;
-    let configured = area[5] == 1;
-    let low = area[6];
-    let running = area[7];
-    let mid = 8 + n * 4;
-    let end = mid + m * 72;
-    let ports = ports_fit(&area[8..mid], n, configured);
-    let buffers = buffers_fit(&area[mid..end], slots, m);
-    logic::both(
-        logic::both(ports, buffers),
-        logic::both(!clashing(slots), runs(slots, low, running)),
-    )
 }
 
 fn decode(area: &[u8]) -> Hub
@@ -905,12 +478,9 @@ fn refuse() -> Read
 pub fn read_area(area: &[u8]) -> Read
     ensures { λ r. ⌜ r ≡ readOf (now (area .entry)) ⌝ }
 {
-    if is_sized(area) {
+    if taken::is_taken(area) {
         let hub = decode(area);
-        if rows_fit(area, slots_in(hub)) {
-            return Read { ok: true, hub };
-        }
-        return refuse();
+        return Read { ok: true, hub };
     }
     refuse()
 }
@@ -937,48 +507,7 @@ pub fn write_area(hub: Hub, area: &mut [u8])
     put_buffers(&mut area[mid..end], buffers, m);
 }
 
-// The first 8 bytes anew, where the area has as many.
-pub fn write_head(identity: Identity, configured: bool, count: u8, low: LowSide, area: &mut [u8])
-    ensures { λ _. ⌜ now (area .exit) ≡ headOver identity configured count low (now (area .entry)) ⌝ }
-{
-    if area.len() < 8 {
-        return;
-    }
-    let head = head_bytes(identity, configured, count, low);
-    fill(&mut area[0..8], &head);
-}
-
-// One port anew, counted from 0, where the area has its bytes.
-pub fn write_port(index: u8, port: Port, area: &mut [u8])
-    ensures { λ _. ⌜ now (area .exit) ≡ portOver index port (now (area .entry)) ⌝ }
-{
-    let at = 8 + (index as usize) * 4;
-    let end = at + 4;
-    if area.len() < end {
-        return;
-    }
-    let form = port_bytes(port);
-    fill(&mut area[at..end], &form);
-}
-
-// One buffer anew, of a hub with so many ports, where the area has its bytes.
-pub fn write_buffer(ports: u8, number: BufferNumber, buffer: Buffer, area: &mut [u8])
-    ensures { λ _. ⌜ now (area .exit) ≡ bufferOver ports number buffer (now (area .entry)) ⌝ }
-{
-    let at = 8 + (ports as usize) * 4 + (number.0 as usize) * 72;
-    let end = at + 72;
-    if area.len() < end {
-        return;
-    }
-    put_buffer(&mut area[at..end], buffer);
-}
-
 // Acceptance is exact; the function does nothing.
 fn area_exact()
     ensures { λ _. ⌜ AreaExact ⌝ }
-{}
-
-// A part written anew is exact; the function does nothing.
-fn parts_exact()
-    ensures { λ _. ⌜ PartsExact ⌝ }
 {}

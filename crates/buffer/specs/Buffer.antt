@@ -1,9 +1,7 @@
 -- One buffer. A reader must believe: it is empty, pending, ready or old; all but empty hold a key.
-use Prim.Native.Nat.{ℕ}
 use mathlib.Core.Bool.{Bool, true, false, cond}
 use Rattle.payload.specs.Payload.{noPayload}
 use Rattle.buffer.specs.declared.Key.{Key}
-use Rattle.buffer.specs.declared.StartSplit.{StartSplit}
 use Rattle.buffer.specs.declared.Slot.{Slot}
 use Rattle.buffer.specs.declared.Slot.the-variants.{Empty, Pending, Ready, Old}
 use Rattle.buffer.specs.declared.Buffer.{Buffer}

@@ -2,7 +2,7 @@
 -- that answer 6 to a call and 8 to a delivery, and the bytes behind a payload are zero.
 use Prim.Native.Nat.{ℕ}
 use mathlib.Core.Path.{_≡_}
-use mathlib.Core.Bool.{Bool, true, false, _&&_}
+use mathlib.Core.Bool.{Bool, true, _&&_}
 use lib.Dec.{eqb}
 use Rattle.payload.specs.Payload.{padded, content}
 use Rattle.buffer.specs.declared.Slot.{Slot}

@@ -30,6 +30,7 @@ use Rattle.area.specs.Read.{readOf}
 use Rattle.area.proofs.Exact.{area-exact}
 use Rattle.grimholdi.specs.Entry.{Gave, gaveBy}
 use Rattle.grimholdi.specs.Runs.{Asked, control, poll, startSplit, completeSplit, launch, deliver, lineEvent, tick, busReset, callOf, replyOf, gives, seen, NewArea, filled, entries, AreaFollows, EntryRefusals, EntryClaims}
+use Rattle.grimholdi.proofs.Taken.{none-written}
 use Rattle.grimholdi.proofs.Ways.{taken-hub, entry-taken, entry-refused, new-made}
 
 -- ---- bytes in a reply space that has room for them
@@ -45,10 +46,6 @@ seen-is d r l = rw (take-all (length r) d l, take-append-seam d (drop (length d)
 behind-is : (d r : List ℕ) → length d ≤ length r → drop (length d) (payload.written d r) ≡ drop (length d) r
 unfolding payload.written
 behind-is d r l = rw (take-all (length r) d l) (drop-seam d (drop (length d) r))
-
-none-written : (r : List ℕ) → payload.written [] r ≡ r
-unfolding payload.written
-none-written r = let l : length {A = ℕ} [] ≤ length r = omega arith in rw (take-all (length r) [] l)
 
 none-fits : (d r : List ℕ) → d ≡ [] → length d ≤ length r
 none-fits d r e = let z : length d ≡ 0 = ap length e in omega (arith, z)

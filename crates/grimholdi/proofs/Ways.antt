@@ -3,18 +3,22 @@ use Prim.Native.Nat.{ℕ}
 use mathlib.Core.Path.{_≡_, refl, sym, _∙_, ap, ap₂}
 use native.Mathlib.Omega.{arith}
 use mathlib.Core.Bool.{Bool, true, false, cond}
-use mathlib.Core.List.{List, []}
+use mathlib.Core.List.{List, [], _∷_}
+use lib.Dec.{eqb}
 use lib.ListN.{length}
 use borrow.Author.Tests.{eq-eqb, ne-eqb}
 use Rattle.payload.specs.Payload as payload
+use Rattle.ports.specs.Bitmap.{bitmapOf}
 use Rattle.hub.specs.declared.Hub.{Hub}
 use Rattle.hub.specs.declared.Identity.{Identity}
 use Rattle.hub.specs.declared.Made.{Made}
 use Rattle.hub.specs.declared.Stepped.{Stepped}
 use Rattle.hub.specs.Hub.{newFits, hubOf, newHub}
-use Rattle.hub.specs.Call.{Call, Outcome, outcomeOf}
-use Rattle.hub.specs.Step.{step}
+use Rattle.hub.specs.Call.{Call, Poll, Outcome, outcomeOf, refuse, gives}
+use Rattle.hub.specs.Rules.{polled}
+use Rattle.hub.specs.Step.{served, step}
 use Rattle.hub.specs.Valid.{ValidHub}
+use Rattle.hub.proofs.Order.{by-step}
 use Rattle.hub.proofs.Claimed.{hub-claims}
 use Rattle.area.specs.declared.Read.{Read}
 use Rattle.area.specs.Written.{written, areaLength, writtenOver}
@@ -62,6 +66,22 @@ module _ (a : List ℕ) (q : Read) (e : q ≡ readOf a) (ok : q .ok ≡ true) wh
         → (x ≡ saidOf (outcomeOf s .answer)) × ((b ≡ writtenOver (s .hub) a) × (t ≡ payload.written (payload.content (s .payload)) r))
         → (x ≡ entry a c r .answer) × ((b ≡ entry a c r .area) × (t ≡ entry a c r .reply))
     settles-reply x b t p = (answers x (p .0), (areas b (p .1 .0), replies t (p .1 .1)))
+
+    -- where the hub stays, nothing is written
+    pub gives-reply : step (q .hub) c .next ≡ q .hub → (x : Answer) (t : List ℕ)
+        → (x ≡ saidOf (outcomeOf s .answer)) × (t ≡ payload.written (payload.content (s .payload)) r)
+        → (x ≡ entry a c r .answer) × ((a ≡ entry a c r .area) × (t ≡ entry a c r .reply))
+    gives-reply n x t p =
+        let kept = taken-hub .1 ∙ ap written (sym n) ∙ ap (λ (g : Gave). g .area) (sym (entry-taken c r)) in
+        (answers x (p .0), (kept, replies t (p .1)))
+
+pub poll-stays : (h : Hub) (room : ℕ) → step h (Poll room) .next ≡ h
+unfolding served polled
+poll-stays h room = by-step h (Poll room) (λ (o : Outcome). o .next ≡ h) (λ n. refl) (λ w f. go (eqb (bitmapOf (h .identity .ports) (h .ports)) 0))
+  where
+    go : (b : Bool) → cond {A = Outcome} b (refuse 3 h) (gives h (bitmapOf (h .identity .ports) (h .ports) ∷ [])) .next ≡ h
+    go true = refl
+    go false = refl
 
 -- ---- an area that is refused
 

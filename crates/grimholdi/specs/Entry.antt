@@ -7,9 +7,11 @@ use mathlib.Core.List.{List, []}
 use lib.Dec.{eqb}
 use lib.ListN.{length}
 use Rattle.payload.specs.Payload as payload
+use Rattle.buffer.specs.declared.DeviceResult.{DeviceResult}
+use Rattle.translator.specs.Answers.{resultNumber, resultPid}
 use Rattle.hub.specs.Hub.{newFits, hubOf}
 use Rattle.hub.specs.Call as hub
-use Rattle.hub.specs.Call.{Call, Outcome}
+use Rattle.hub.specs.Call.{Call, Outcome, pidAnswer}
 use Rattle.hub.specs.Step.{step}
 use Rattle.area.specs.Written.{written, areaLength}
 use Rattle.area.specs.Read.{readOf}
@@ -33,6 +35,10 @@ saidOf a =
 -- a number alone
 abbrev pub plainSaid : ℕ → Answer
 plainSaid n = record { number = n; length = 0; pid = 0; transfer = 0; address = 0; endpoint = 0; direction = 0; lowspeed = 0; toggle = 0 }
+
+-- a result with its bytes: data, or the device's handshake
+abbrev pub resultSaid : DeviceResult → List ℕ → Answer
+resultSaid r l = saidOf (pidAnswer (resultNumber r) (resultPid r) l)
 
 -- what a call returns and leaves
 pub record Gave : Type 0 where

@@ -1,16 +1,34 @@
-// The C entries: thin. Each reads the lent area, calls the hub by value, and writes the area and the reply space.
+// The C entries. Port calls read the lent area, call the hub by value and write the area; the translator's calls read the slots of its
+// buffers, decide by them, and write only what changes.
 ghost use mathlib.Core.Path.{_≡_};
+ghost use mathlib.Core.Bool.{true};
 ghost use mathlib.Core.List.{[]};
 ghost use lib.ListN.{length};
-ghost use Rattle.payload.specs.Payload.{content, written as writtenBytes};
+ghost use Rattle.payload.specs.Payload.{content, payloadOf, written as writtenBytes};
+ghost use Rattle.buffer.specs.declared.Slot.the-variants.{Ready, Old};
+ghost use Rattle.translator.specs.declared.LowSide.the-variants.{Idle};
+ghost use Rattle.translator.specs.CompleteSplit.{given};
+ghost use Rattle.taken.specs.Read.{accepts};
 ghost use Rattle.area.specs.Written.{areaLength, writtenOver};
 ghost use Rattle.hub.specs.Call.{outcomeOf};
+ghost use Rattle.hub.specs.Rules.{launchAnswer};
 ghost use Rattle.hub.specs.Call.Call.{Control, Poll, Start, Complete, Launch, Deliver, Event, Tick, BusReset};
-ghost use Rattle.grimholdi.specs.Entry.{saidOf, plainSaid, entry, newEntry};
+ghost use Rattle.parts.specs.Parts.{lowOver, bufferOver};
+ghost use Rattle.grimholdi.specs.Entry.{saidOf, plainSaid, resultSaid, entry, newEntry};
 ghost use Rattle.grimholdi.specs.Runs.{EntryClaims};
+use buffer::Buffer;
+use buffer::BufferNumber;
+use buffer::DeviceResult;
+use buffer::Slot;
+use buffer::StartSplit;
 use hub::Hub;
 use hub::Stepped;
 use payload::Payload;
+use translator::Choice;
+use translator::CompleteAnswer;
+use translator::Earliest;
+use translator::Found;
+use translator::LowSide;
 
 // What a call answers; fields that don't apply are 0. The header's grimholdi_answer.
 #[repr(C)]
@@ -72,16 +90,259 @@ fn settle(o: Stepped, area: &mut [u8]) -> Answer
     answer_of(o)
 }
 
+// The bytes into the reply space.
+fn give_reply(o: Stepped, reply: &mut [u8]) -> Answer
+    ensures { λ r. ⌜ r ≡ saidOf (outcomeOf o .answer) ⌝ }
+    ensures reply { λ _. ⌜ now (reply .exit) ≡ writtenBytes (content (o .payload)) (now (reply .entry)) ⌝ }
+{
+    let payload = o.payload;
+    payload.give(reply);
+    answer_of(o)
+}
+
 // The next hub into the area, and the bytes into the reply space.
 fn settle_reply(o: Stepped, area: &mut [u8], reply: &mut [u8]) -> Answer
     ensures { λ r. ⌜ r ≡ saidOf (outcomeOf o .answer) ⌝ }
     ensures area { λ _. ⌜ now (area .exit) ≡ writtenOver (o .hub) (now (area .entry)) ⌝ }
     ensures reply { λ _. ⌜ now (reply .exit) ≡ writtenBytes (content (o .payload)) (now (reply .entry)) ⌝ }
 {
-    let payload = o.payload;
-    payload.give(reply);
-    settle(o, area)
+    let hub = o.hub;
+    area::write_area(hub, area);
+    give_reply(o, reply)
 }
+
+// ---- the translator's calls on an area that is taken: the slots decide, and only what changes is written
+
+// A launched transaction.
+fn launch_answer(split: StartSplit, payload: Payload) -> Answer
+    ensures { λ r. ⌜ r ≡ saidOf (launchAnswer split (content payload)) ⌝ }
+{
+    let pid = split.pid;
+    let transfer = split.transfer;
+    Answer {
+        number: 1,
+        length: payload.size(),
+        pid: numbers::pid_number(pid),
+        transfer: numbers::type_number(transfer),
+        address: split.address.0,
+        endpoint: split.endpoint,
+        direction: numbers::direction_number(pid.direction()),
+        lowspeed: numbers::flag_number(split.lowspeed),
+        toggle: numbers::flag_number(split.toggle),
+    }
+}
+
+fn launch(area: &mut [u8], reply: &mut [u8]) -> Answer
+    requires { ⌜ accepts (now area) ≡ true ⌝ }
+    ensures { λ r. ⌜ r ≡ entry (now (area .entry)) (Launch (length (now (reply .entry)))) (now (reply .entry)) .answer ⌝ }
+    ensures area { λ _. ⌜ now (area .exit) ≡ entry (now (area .entry)) (Launch (length (now (reply .entry)))) (now (reply .entry)) .area ⌝ }
+    ensures reply { λ _. ⌜ now (reply .exit) ≡ entry (now (area .entry)) (Launch (length (now (reply .entry)))) (now (reply .entry)) .reply ⌝ }
+{
+    let head = parts::head_at(area);
+    let refusal = hub::first_refusal(true, 64 <= reply.len(), head.configured, true);
+    if refusal != 0 {
+        return plain_answer(refusal);
+    }
+    let low = head.low;
+    match low {
+        LowSide::Idle => {
+            let slots = parts::slots_at(area, head.ports);
+            match translator::earliest_of(slots, head.count) {
+                Earliest::NonePending => plain_answer(3),
+                Earliest::Stored(n, _) => {
+                    let b = parts::buffer_at(area, head.ports, n);
+                    let slot = b.slot;
+                    let payload = b.payload;
+                    match slot {
+                        Slot::Empty => plain_answer(3),
+                        Slot::Pending(split, _) => {
+                            parts::write_low(LowSide::Running(n), area);
+                            payload.give(reply);
+                            launch_answer(split, payload)
+                        }
+                        Slot::Ready(_, _) => plain_answer(3),
+                        Slot::Old(_, _) => plain_answer(3),
+                    }
+                }
+            }
+        }
+        LowSide::Running(_) => plain_answer(8),
+        LowSide::Abandoned => plain_answer(8),
+    }
+}
+
+// The result in buffer n, which is ready then, and an idle low side.
+fn put_result(
+    ports: u8,
+    n: BufferNumber,
+    split: StartSplit,
+    result: DeviceResult,
+    payload: &[u8],
+    area: &mut [u8],
+)
+    ensures { λ _. ⌜ now (area .exit) ≡ bufferOver ports n (record { slot = Ready split result; payload = payloadOf (now (payload .entry)) }) (lowOver Idle (now (area .entry))) ⌝ }
+{
+    parts::write_low(LowSide::Idle, area);
+    let ready = Buffer {
+        slot: Slot::Ready(split, result),
+        payload: Payload::of(payload),
+    };
+    parts::write_buffer(ports, n, ready, area);
+}
+
+fn deliver(area: &mut [u8], result: u32, payload: &[u8]) -> Answer
+    requires { ⌜ accepts (now area) ≡ true ⌝ }
+    ensures { λ r. ⌜ r ≡ entry (now (area .entry)) (Deliver result (now (payload .entry))) [] .answer ⌝ }
+    ensures area { λ _. ⌜ now (area .exit) ≡ entry (now (area .entry)) (Deliver result (now (payload .entry))) [] .area ⌝ }
+{
+    let kind = numbers::result_of(result);
+    let within = logic::both(numbers::is_result(result), kind.carries(payload.len()));
+    let head = parts::head_at(area);
+    let refusal = hub::first_refusal(within, true, head.configured, true);
+    if refusal != 0 {
+        return plain_answer(refusal);
+    }
+    let low = head.low;
+    match low {
+        LowSide::Idle => plain_answer(8),
+        LowSide::Running(n) => {
+            let slot = parts::slot_at(area, head.ports, n);
+            match slot {
+                Slot::Empty => plain_answer(8),
+                Slot::Pending(split, _) => {
+                    let pid = split.pid;
+                    if kind.suits(pid) {
+                        put_result(head.ports, n, split, kind, payload, area);
+                        return plain_answer(0);
+                    }
+                    plain_answer(8)
+                }
+                Slot::Ready(_, _) => plain_answer(8),
+                Slot::Old(_, _) => plain_answer(8),
+            }
+        }
+        LowSide::Abandoned => {
+            parts::write_low(LowSide::Idle, area);
+            plain_answer(0)
+        }
+    }
+}
+
+// A result, with the bytes of data.
+fn give_result(result: DeviceResult, payload: Payload, reply: &mut [u8]) -> Answer
+    ensures { λ r. ⌜ r ≡ resultSaid result (content (given result payload)) ⌝ }
+    ensures reply { λ _. ⌜ now (reply .exit) ≡ writtenBytes (content (given result payload)) (now (reply .entry)) ⌝ }
+{
+    let data = translator::give(result, payload);
+    data.give(reply);
+    Answer {
+        number: numbers::complete_answer(CompleteAnswer::Gives(result)),
+        length: data.size(),
+        pid: numbers::complete_pid(result),
+        transfer: 0,
+        address: 0,
+        endpoint: 0,
+        direction: 0,
+        lowspeed: 0,
+        toggle: 0,
+    }
+}
+
+// The result in buffer n was given: the buffer is old.
+fn put_old(
+    ports: u8,
+    n: BufferNumber,
+    split: StartSplit,
+    result: DeviceResult,
+    payload: Payload,
+    area: &mut [u8],
+)
+    ensures { λ _. ⌜ now (area .exit) ≡ bufferOver ports n (record { slot = Old split result; payload = payload }) (now (area .entry)) ⌝ }
+{
+    let old = Buffer {
+        slot: Slot::Old(split, result),
+        payload,
+    };
+    parts::write_buffer(ports, n, old, area);
+}
+
+fn complete_split(
+    area: &mut [u8],
+    address: u32,
+    endpoint: u32,
+    direction: u32,
+    reply: &mut [u8],
+) -> Answer
+    requires { ⌜ accepts (now area) ≡ true ⌝ }
+    ensures { λ r. ⌜ r ≡ entry (now (area .entry)) (Complete address endpoint direction (length (now (reply .entry)))) (now (reply .entry)) .answer ⌝ }
+    ensures area { λ _. ⌜ now (area .exit) ≡ entry (now (area .entry)) (Complete address endpoint direction (length (now (reply .entry)))) (now (reply .entry)) .area ⌝ }
+    ensures reply { λ _. ⌜ now (reply .exit) ≡ entry (now (area .entry)) (Complete address endpoint direction (length (now (reply .entry)))) (now (reply .entry)) .reply ⌝ }
+{
+    let named = numbers::key_named(address, endpoint, direction);
+    let head = parts::head_at(area);
+    let refusal = hub::first_refusal(named, 64 <= reply.len(), head.configured, true);
+    if refusal != 0 {
+        return plain_answer(refusal);
+    }
+    let slots = parts::slots_at(area, head.ports);
+    let key = numbers::key_of(address, endpoint, direction);
+    match translator::holder(slots, head.count, key) {
+        Found::Nowhere => plain_answer(2),
+        Found::At(n) => {
+            let b = parts::buffer_at(area, head.ports, n);
+            let slot = b.slot;
+            let payload = b.payload;
+            match slot {
+                Slot::Empty => plain_answer(2),
+                Slot::Pending(_, _) => plain_answer(4),
+                Slot::Ready(split, result) => {
+                    put_old(head.ports, n, split, result, payload, area);
+                    give_result(result, payload, reply)
+                }
+                Slot::Old(_, result) => give_result(result, payload, reply),
+            }
+        }
+    }
+}
+
+fn start_split(
+    area: &mut [u8],
+    pid: u32,
+    transfer: u32,
+    lowspeed: u32,
+    toggle: u32,
+    address: u32,
+    endpoint: u32,
+    payload: &[u8],
+) -> Answer
+    requires { ⌜ accepts (now area) ≡ true ⌝ }
+    ensures { λ r. ⌜ r ≡ entry (now (area .entry)) (Start pid transfer lowspeed toggle address endpoint (now (payload .entry))) [] .answer ⌝ }
+    ensures area { λ _. ⌜ now (area .exit) ≡ entry (now (area .entry)) (Start pid transfer lowspeed toggle address endpoint (now (payload .entry))) [] .area ⌝ }
+{
+    let split = numbers::split_of(pid, transfer, lowspeed, toggle, address, endpoint);
+    let named = numbers::split_named(pid, transfer, lowspeed, toggle, address, endpoint);
+    let within = logic::both(named, split.fits(payload.len()));
+    let head = parts::head_at(area);
+    let refusal = hub::first_refusal(within, true, head.configured, true);
+    if refusal != 0 {
+        return plain_answer(refusal);
+    }
+    let slots = parts::slots_at(area, head.ports);
+    match translator::choose(slots, head.count, split.key()) {
+        Choice::NoRoom => plain_answer(3),
+        Choice::Held(_) => plain_answer(0),
+        Choice::Reused(n) => {
+            parts::store(slots, head.ports, n, split, payload, area);
+            plain_answer(0)
+        }
+        Choice::Took(n) => {
+            parts::store(slots, head.ports, n, split, payload, area);
+            plain_answer(0)
+        }
+    }
+}
+
+// ---- the entries
 
 // The length of the area of a hub; 0 where a number is outside the rules.
 #[no_mangle]
@@ -130,6 +391,7 @@ pub extern "C" fn grimholdi_control(area: &mut [u8], setup: &[u8], reply: &mut [
     plain_answer(6)
 }
 
+// A poll changes no hub, so nothing is written to the area.
 #[no_mangle]
 pub extern "C" fn grimholdi_poll(area: &mut [u8], reply: &mut [u8]) -> Answer
     ensures { λ r. ⌜ r ≡ entry (now (area .entry)) (Poll (length (now (reply .entry)))) (now (reply .entry)) .answer ⌝ }
@@ -139,7 +401,7 @@ pub extern "C" fn grimholdi_poll(area: &mut [u8], reply: &mut [u8]) -> Answer
     let read = area::read_area(area);
     if read.ok {
         let hub = read.hub;
-        return settle_reply(hub.poll(reply.len()), area, reply);
+        return give_reply(hub.poll(reply.len()), reply);
     }
     plain_answer(6)
 }
@@ -158,12 +420,16 @@ pub extern "C" fn grimholdi_start_split(
     ensures { λ r. ⌜ r ≡ entry (now (area .entry)) (Start pid transfer lowspeed toggle address endpoint (now (payload .entry))) [] .answer ⌝ }
     ensures area { λ _. ⌜ now (area .exit) ≡ entry (now (area .entry)) (Start pid transfer lowspeed toggle address endpoint (now (payload .entry))) [] .area ⌝ }
 {
-    let read = area::read_area(area);
-    if read.ok {
-        let hub = read.hub;
-        return settle(
-            hub.start_split(pid, transfer, lowspeed, toggle, address, endpoint, payload),
+    if taken::is_taken(area) {
+        return start_split(
             area,
+            pid,
+            transfer,
+            lowspeed,
+            toggle,
+            address,
+            endpoint,
+            payload,
         );
     }
     plain_answer(6)
@@ -181,14 +447,8 @@ pub extern "C" fn grimholdi_complete_split(
     ensures area { λ _. ⌜ now (area .exit) ≡ entry (now (area .entry)) (Complete address endpoint direction (length (now (reply .entry)))) (now (reply .entry)) .area ⌝ }
     ensures reply { λ _. ⌜ now (reply .exit) ≡ entry (now (area .entry)) (Complete address endpoint direction (length (now (reply .entry)))) (now (reply .entry)) .reply ⌝ }
 {
-    let read = area::read_area(area);
-    if read.ok {
-        let hub = read.hub;
-        return settle_reply(
-            hub.complete_split(address, endpoint, direction, reply.len()),
-            area,
-            reply,
-        );
+    if taken::is_taken(area) {
+        return complete_split(area, address, endpoint, direction, reply);
     }
     plain_answer(6)
 }
@@ -199,10 +459,8 @@ pub extern "C" fn grimholdi_launch(area: &mut [u8], reply: &mut [u8]) -> Answer
     ensures area { λ _. ⌜ now (area .exit) ≡ entry (now (area .entry)) (Launch (length (now (reply .entry)))) (now (reply .entry)) .area ⌝ }
     ensures reply { λ _. ⌜ now (reply .exit) ≡ entry (now (area .entry)) (Launch (length (now (reply .entry)))) (now (reply .entry)) .reply ⌝ }
 {
-    let read = area::read_area(area);
-    if read.ok {
-        let hub = read.hub;
-        return settle_reply(hub.launch(reply.len()), area, reply);
+    if taken::is_taken(area) {
+        return launch(area, reply);
     }
     plain_answer(6)
 }
@@ -212,10 +470,8 @@ pub extern "C" fn grimholdi_deliver(area: &mut [u8], result: u32, payload: &[u8]
     ensures { λ r. ⌜ r ≡ entry (now (area .entry)) (Deliver result (now (payload .entry))) [] .answer ⌝ }
     ensures area { λ _. ⌜ now (area .exit) ≡ entry (now (area .entry)) (Deliver result (now (payload .entry))) [] .area ⌝ }
 {
-    let read = area::read_area(area);
-    if read.ok {
-        let hub = read.hub;
-        return settle(hub.deliver(result, payload), area);
+    if taken::is_taken(area) {
+        return deliver(area, result, payload);
     }
     plain_answer(6)
 }

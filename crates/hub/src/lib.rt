@@ -129,7 +129,7 @@ fn give_launch(hub: Hub, split: StartSplit, payload: Payload) -> Stepped
 }
 
 // The order of checks: 6, 7, 5, 8, then the rest.
-fn first_refusal(within: bool, roomy: bool, heard: bool, fitting: bool) -> u8
+pub fn first_refusal(within: bool, roomy: bool, heard: bool, fitting: bool) -> u8
     ensures { λ r. ⌜ r ≡ firstRefusal within roomy heard fitting ⌝ }
 {
     if within {

@@ -1,7 +1,6 @@
 -- The claims on every port.
 -- Assumes nothing.
-use mathlib.Core.Path.{_≡_, refl}
-use mathlib.Core.List.{_∷_}
+use mathlib.Core.Path.{refl}
 use Rattle.port.specs.Status.{statusLow, statusHigh, changeLow}
 use Rattle.port.specs.Events.{eventRule}
 use Rattle.port.specs.Claims.{PortClaims}

@@ -4,7 +4,7 @@ use native.Mathlib.Decide.{ℕ-discrete}
 use mathlib.Core.Path.{_≡_, refl, sym, _∙_, ap, subst}
 use mathlib.Core.Option.{Option, none, some}
 use mathlib.Core.List.{List, [], _∷_, append-nil}
-use mathlib.Core.Bool.{Bool, true, false, cond, not, true≢false, false≢true}
+use mathlib.Core.Bool.{Bool, true, false, cond, true≢false, false≢true}
 use borrow.Author.Tests.{eq-eqb, ne-eqb, eqb-true, eqb-false}
 use lib.ListN.{length, set, replicate}
 use lib.Dec.{eqb}
@@ -17,7 +17,6 @@ use Rattle.buffer.specs.declared.Slot.{Slot}
 use Rattle.buffer.specs.declared.Slot.the-variants.{Empty, Pending, Ready, Old}
 use Rattle.buffer.specs.declared.Buffer.{Buffer}
 use Rattle.buffer.specs.declared.BufferNumber.{BufferNumber}
-use Rattle.buffer.specs.Key.{sameKey}
 use Rattle.buffer.specs.Key as key
 use Rattle.buffer.specs.Lengths.{isData}
 use Rattle.buffer.specs.Buffer.{vacant, isActive, isFree, holds}
@@ -26,12 +25,11 @@ use Rattle.translator.specs.declared.LowSide.{LowSide}
 use Rattle.translator.specs.declared.LowSide.the-variants.{Idle, Running, Abandoned}
 use Rattle.translator.specs.Translator.{at}
 use Rattle.translator.specs.Order.{reranked, rankedIn, ranked}
-use Rattle.translator.specs.StartSplit.{stored}
 use Rattle.translator.specs.Clear.{lowWithout}
 use Rattle.translator.specs.Answers.{resultPid}
 use Rattle.translator.specs.Valid.{Apart}
 use Rattle.translator.proofs.At.{inside, at-same, at-other, at-cases, at-ranked, holds-reranked}
-use Rattle.runs.specs.History.{Event, History, nothing, starts, completes, launches, delivers, clears, asks, answerKey, isDone, isResult, isOpen, lastStored, For, lastFor, isAt, isFor, Delivered, deliveredFor}
+use Rattle.runs.specs.History.{Event, History, starts, completes, launches, delivers, clears, asks, answerKey, isDone, isResult, isOpen, lastStored, For, lastFor, isAt, isFor, Delivered, deliveredFor}
 use Rattle.runs.proofs.Histories.{fresh, fresh-for, one-key, Keeps, Any, Else, Silent, not-for-it, keeps-start, start-opens, start-stores, start-for, start-data, keeps-repeat, keeps-complete, complete-closes, complete-stores, complete-closed, complete-for, complete-data, keeps-clear, clear-closes, keeps-closed, clear-for, clear-data, keeps-launch, launch-data, launch-for, keeps-deliver}
 
 -- the data that a buffer has from the low side

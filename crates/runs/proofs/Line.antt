@@ -31,7 +31,7 @@ use Rattle.translator.proofs.At.{at-same, at-other, at-cases, at-ranked, pendin
 use Rattle.translator.proofs.Ranks.{rank-lt, rank-below}
 use Rattle.numbers.specs.Written.{typeNumber}
 use Rattle.hub.specs.Call.{Call, Start}
-use Rattle.runs.specs.History.{Event, History, nothing, starts, asks, isDone, isOpen, stores, lastStored}
+use Rattle.runs.specs.History.{Event, History, starts, asks, isDone, isOpen, stores, lastStored}
 use Rattle.runs.specs.Order.{pendingAfter, isPendingAt, callAt}
 use Rattle.runs.proofs.Histories.{Below, stored-below, not-new, some-inj, one-key, keeps-start, start-stores}
 use Rattle.runs.proofs.Invariant.{Inv, idle-closed}

@@ -23,7 +23,7 @@ use Rattle.hub.specs.Call.{Call, Control, Poll, Start, Complete, Launch, Delive
 use Rattle.hub.specs.Step.{step}
 use Rattle.hub.proofs.Numbers.{fits}
 use Rattle.runs.specs.History.{History, Asks, nothing, starts, completes, launches, delivers, clears, empties, keyOf, asks, answerKey, isOpen, For, lastFor}
-use Rattle.runs.specs.Machine.{Numbers, newHubOf, rules, runFrom, run}
+use Rattle.runs.specs.Machine.{Numbers, newHubOf, rules, runFrom}
 use Rattle.runs.specs.Demand3.{SameCall, same, start, deliver, SameCalls, Excepted, SameAnswer, SameAnswers, AllExplained, Demand3}
 use Rattle.runs.proofs.Invariant.{LowOk, RunsFor, empty-kept}
 use Rattle.runs.proofs.Kept.{ev, Tied}

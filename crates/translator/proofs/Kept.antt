@@ -1,9 +1,9 @@
 -- A new translator is valid, and every call leaves a valid one valid. Assumes nothing.
-use Prim.Native.Nat.{ℕ, zero, suc, _+_, _<_, _≤_}
+use Prim.Native.Nat.{ℕ, zero, suc, _<_, _≤_}
 use native.Mathlib.Omega.{arith}
 use mathlib.Core.Path.{_≡_, refl, sym, _∙_, ap, subst}
-use mathlib.Core.List.{List, _∷_}
-use mathlib.Core.Bool.{Bool, true, false, cond, _&&_, and-eq-true-iff, true≢false, false≢true}
+use mathlib.Core.List.{List}
+use mathlib.Core.Bool.{Bool, true, false, cond, and-eq-true-iff, true≢false, false≢true}
 use borrow.Author.Tests.{eqb-true, eqb-false, leb-true, ltb-true, ltb-false}
 use lib.Dec.{eqb, ltb}
 use lib.ListN.{length, set, take, replicate, length-set}
@@ -146,7 +146,8 @@ module _ (t : Translator) (v : ValidTranslator t) where
 
 -- ---- start-split
 
-fits-reranked : (bs : List Buffer) (s : Slot) (n : ℕ) → slotFits (reranked bs s) n ≡ slotFits s n
+-- a place is not looked at
+pub fits-reranked : (bs : List Buffer) (s : Slot) (n : ℕ) → slotFits (reranked bs s) n ≡ slotFits s n
 fits-reranked bs Empty n = refl
 fits-reranked bs (Pending s p) n = refl
 fits-reranked bs (Ready s r) n = refl

@@ -1,5 +1,6 @@
-pub mod Lists
 pub mod Search
+pub mod Bare
+pub mod Lists
 pub mod StartSplit
 pub mod At
 pub mod Finding

@@ -8,7 +8,9 @@ use native.Mathlib.Omega.{arith}
 use lib.ListN.{length, getD, length-map}
 use Rattle.buffer.specs.declared.Slot.{Slot}
 use Rattle.buffer.specs.declared.Buffer.{Buffer}
+use Rattle.translator.specs.Slots.{slotsIn, bare}
 use Rattle.translator.specs.Order.{bit, tally, rankedIn, ranked}
+use Rattle.translator.proofs.Bare.{rankedIn-bare}
 
 -- a list is as long as what a function makes of it
 pub unmapped : (X Y : Type 0) (f : X → Y) (l : List X) (n : ℕ) → length (map f l) ≡ n → length l ≡ n
@@ -29,15 +31,23 @@ four d (a ∷ b ∷ c ∷ []) e = absurd (omega (arith, e))
 four d (a ∷ b ∷ c ∷ f ∷ []) e = refl
 four d (a ∷ b ∷ c ∷ f ∷ g ∷ l) e = absurd (omega (arith, e))
 
-module _ (d : Buffer) (bs : List Buffer) (long : length bs ≡ 4) where
+module _ (d : Slot) (ss : List Slot) (long : length ss ≡ 4) where
   -- a tally by its four tests
   pub tally-four : (f : Slot → Bool) {b₀ b₁ b₂ b₃ : Bool} {n : ℕ} → n ≡ bit b₀ + (bit b₁ + (bit b₂ + bit b₃))
-      → b₀ ≡ f (getD bs 0 d .slot) → b₁ ≡ f (getD bs 1 d .slot) → b₂ ≡ f (getD bs 2 d .slot) → b₃ ≡ f (getD bs 3 d .slot) → n ≡ tally f bs
-  unfolding tally
-  tally-four f e e₀ e₁ e₂ e₃ = rw (e, e₀, e₁, e₂, e₃) (omega (arith, ap (tally f) (four d bs long)))
+      → b₀ ≡ f (getD ss 0 d) → b₁ ≡ f (getD ss 1 d) → b₂ ≡ f (getD ss 2 d) → b₃ ≡ f (getD ss 3 d) → n ≡ tally f (bare ss)
+  unfolding tally bare
+  tally-four f e e₀ e₁ e₂ e₃ = rw (e, e₀, e₁, e₂, e₃) (omega (arith, ap (λ (l : List Slot). tally f (bare l)) (four d ss long)))
+
+module _ (d : Buffer) (bs : List Buffer) (long : length bs ≡ 4) where
+  -- their slots
+  pub slots-four : getD bs 0 d .slot ∷ getD bs 1 d .slot ∷ getD bs 2 d .slot ∷ getD bs 3 d .slot ∷ [] ≡ slotsIn bs
+  slots-four = sym (ap slotsIn (four d bs long))
 
   -- what a function makes of each of the four
-  pub ranked-four : {r₀ r₁ r₂ r₃ : Buffer} → r₀ ≡ rankedIn bs (getD bs 0 d) → r₁ ≡ rankedIn bs (getD bs 1 d) → r₂ ≡ rankedIn bs (getD bs 2 d) → r₃ ≡ rankedIn bs (getD bs 3 d)
+  pub ranked-four : {ss : List Slot} {r₀ r₁ r₂ r₃ : Buffer} → ss ≡ slotsIn bs
+      → r₀ ≡ rankedIn (bare ss) (getD bs 0 d) → r₁ ≡ rankedIn (bare ss) (getD bs 1 d) → r₂ ≡ rankedIn (bare ss) (getD bs 2 d) → r₃ ≡ rankedIn (bare ss) (getD bs 3 d)
       → r₀ ∷ r₁ ∷ r₂ ∷ r₃ ∷ [] ≡ ranked bs
   unfolding ranked
-  ranked-four e₀ e₁ e₂ e₃ = rw (e₀, e₁, e₂, e₃) (sym (ap (map (rankedIn bs)) (four d bs long)))
+  ranked-four e e₀ e₁ e₂ e₃ =
+      rw (e₀, e₁, e₂, e₃, e, rankedIn-bare bs (getD bs 0 d), rankedIn-bare bs (getD bs 1 d), rankedIn-bare bs (getD bs 2 d), rankedIn-bare bs (getD bs 3 d))
+      (sym (ap (map (rankedIn bs)) (four d bs long)))

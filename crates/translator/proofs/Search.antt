@@ -2,11 +2,12 @@
 use Prim.Native.Nat.{ℕ, suc, _+_, _<_, _≤_, min}
 use mathlib.Core.Path.{_≡_, refl, ap, _∙_}
 use mathlib.Core.Bool.{Bool, true, false, cond}
-use mathlib.Core.List.{List, [], _∷_}
+use mathlib.Core.List.{List, [], _∷_, map}
 use native.Mathlib.Numerals.{add-one}
 use native.Mathlib.Omega.{arith}
-use lib.ListN.{length, take, drop, getD, length-take, drop-of-length-le}
+use lib.ListN.{length, take, drop, getD, length-take, length-map, drop-of-length-le, List·getD-map}
 use lib.Seq.{drop-cons, getD-take}
+use Rattle.payload.specs.Payload.{noPayload}
 use Rattle.buffer.specs.declared.Key.{Key}
 use Rattle.buffer.specs.declared.Slot.{Slot}
 use Rattle.buffer.specs.declared.Slot.the-variants.{Empty, Pending, Ready, Old}
@@ -22,34 +23,37 @@ use Rattle.translator.specs.declared.Choice.{Choice}
 use Rattle.translator.specs.declared.Choice.the-variants.{NoRoom, Held, Reused, Took}
 use Rattle.translator.specs.declared.Earliest.the-variants.{NonePending}
 use Rattle.translator.specs.Translator.{at}
+use Rattle.translator.specs.Slots.{bare}
 use Rattle.translator.specs.Order.{sooner, earliest}
 use Rattle.translator.specs.Search.{later, find, chooseFree, chooseHeld, chosen, looked, pass, holderOf}
 
--- A pass over the first m of the buffers bs that is to give w: where it stands at number i with c in hand, ..
-pub record Ahead {C : Type 0} (f : C → Slot → BufferNumber → C) (m : ℕ) (bs : List Buffer) (w : C) (i : ℕ) (c : C) : Type 0 where
-  pub rest : pass f i c (drop i (take m bs)) ≡ w
+-- A pass over the first m of the slots ss that is to give w: where it stands at number i with c in hand, ..
+pub record Ahead {C : Type 0} (f : C → Slot → BufferNumber → C) (m : ℕ) (ss : List Slot) (w : C) (i : ℕ) (c : C) : Type 0 where
+  pub rest : pass f i c (drop i (take m (bare ss))) ≡ w
 
-module _ {C : Type 0} {f : C → Slot → BufferNumber → C} {m : ℕ} {bs : List Buffer} {w : C} {i : ℕ} {c : C} where
+module _ {C : Type 0} {f : C → Slot → BufferNumber → C} {m : ℕ} {ss : List Slot} {w : C} {i : ℕ} {c : C} where
   -- .. it goes on by one step, ..
-  pub onward : {c′ : C} (d : Buffer) → Ahead f m bs w i c → c′ ≡ f c (getD bs i d .slot) (record { 0 = i }) → i < m → i < length bs → Ahead f m bs w (i + 1) c′
-  unfolding pass
+  pub onward : {c′ : C} (d : Slot) → Ahead f m ss w i c → c′ ≡ f c (getD ss i d) (record { 0 = i }) → i < m → i < length ss → Ahead f m ss w (i + 1) c′
+  unfolding pass bare
   onward d a e h l =
-      let n : i < length (take m bs) = simp length-take (omega arith) in
-      record { rest = rw (e, add-one, ← getD-take m bs i d) (rw (drop-cons (take m bs) i d) at (a .rest)) }
+      let b : Slot → Buffer = λ s. record { slot = s; payload = noPayload } in
+      let n : i < length (take m (map b ss)) = simp (length-take, length-map) (omega arith) in
+      let t : getD (take m (map b ss)) i (b d) ≡ b (getD ss i d) = getD-take m (map b ss) i (b d) h ∙ List·getD-map b ss i d in
+      record { rest = rw (e, add-one) (rw t at (rw (drop-cons (take m (map b ss)) i (b d)) at (a .rest))) }
 
-  -- .. and is done past the last buffer
-  pub ended : Ahead f m bs w i c → min m (length bs) ≤ i → c ≡ w
-  unfolding pass
+  -- .. and is done past the last slot
+  pub ended : Ahead f m ss w i c → min m (length ss) ≤ i → c ≡ w
+  unfolding pass bare
   ended a h =
-      let n : length (take m bs) ≤ i = simp length-take (omega arith) in
-      rw (drop-of-length-le (take m bs) n) at (a .rest)
+      let n : length (take m (bare ss)) ≤ i = simp (length-take, length-map) (omega arith) in
+      rw (drop-of-length-le (take m (bare ss)) n) at (a .rest)
 
 -- the step of the search for a key
 abbrev pub looking : Key → Choice → Slot → BufferNumber → Choice
 looking k c s n = looked c (standing k s) n
 
-pub look-on : {k : Key} {m : ℕ} {bs : List Buffer} {w : Choice} {i : ℕ} {c c′ : Choice} {s : Standing} (d : Buffer) → Ahead (looking k) m bs w i c
-    → s ≡ standing k (getD bs i d .slot) → c′ ≡ looked c s (record { 0 = i }) → i < m → i < length bs → Ahead (looking k) m bs w (i + 1) c′
+pub look-on : {k : Key} {m : ℕ} {ss : List Slot} {w : Choice} {i : ℕ} {c c′ : Choice} {s : Standing} (d : Slot) → Ahead (looking k) m ss w i c
+    → s ≡ standing k (getD ss i d) → c′ ≡ looked c s (record { 0 = i }) → i < m → i < length ss → Ahead (looking k) m ss w (i + 1) c′
 look-on d a e f = onward d a (rw (f, e))
 
 -- what holds the key ends the search
@@ -138,14 +142,17 @@ from-zero bs Nowhere = go (find isFree bs)
 from-zero bs (At i) = let z : 0 + i .0 ≡ i .0 = omega arith in rw z
 
 -- the pass from the first buffer gives the choice
-pub choosing : (k : Key) (m : ℕ) (bs : List Buffer) → Ahead (looking k) m bs (chosen k (take m bs)) 0 NoRoom
+pub pass-chosen : (k : Key) (bs : List Buffer) → pass (looking k) 0 NoRoom bs ≡ chosen k bs
 unfolding chosen
-choosing k m bs = record { rest = one-pass k 0 (take m bs) ∙ from-zero (take m bs) (find (holds k) (take m bs)) }
+pass-chosen k bs = one-pass k 0 bs ∙ from-zero bs (find (holds k) bs)
+
+pub choosing : (k : Key) (m : ℕ) (ss : List Slot) → Ahead (looking k) m ss (chosen k (take m (bare ss))) 0 NoRoom
+choosing k m ss = record { rest = pass-chosen k (take m (bare ss)) }
 
 -- the pass from the first buffer gives the earliest
-pub seeking : (m : ℕ) (bs : List Buffer) → Ahead sooner m bs (earliest (take m bs)) 0 NonePending
+pub seeking : (m : ℕ) (ss : List Slot) → Ahead sooner m ss (earliest (take m (bare ss))) 0 NonePending
 unfolding earliest
-seeking m bs = record { rest = refl }
+seeking m ss = record { rest = refl }
 
 -- the buffer of a choice that holds the key is the one that the key's search finds
 pub holder-found : (k : Key) (bs : List Buffer) → holderOf (chosen k bs) ≡ find (holds k) bs

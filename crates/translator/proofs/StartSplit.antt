@@ -10,6 +10,7 @@ use Rattle.buffer.specs.declared.Key.{Key}
 use Rattle.buffer.specs.Key.{keyOf}
 use Rattle.buffer.specs.Lengths.{startFits}
 use Rattle.buffer.specs.declared.StartSplit.{StartSplit}
+use Rattle.buffer.specs.declared.Slot.{Slot}
 use Rattle.buffer.specs.declared.Slot.the-variants.{Pending}
 use Rattle.buffer.specs.declared.Buffer.{Buffer}
 use Rattle.buffer.specs.declared.BufferNumber.{BufferNumber}
@@ -17,15 +18,17 @@ use Rattle.translator.specs.declared.Translator.{Translator}
 use Rattle.translator.specs.declared.Choice.{Choice}
 use Rattle.translator.specs.Search.{chosen}
 use Rattle.translator.specs.Translator.{withBuffer}
+use Rattle.translator.specs.Slots.{slotsIn, bare}
 use Rattle.translator.specs.Order.{waiting, ranked}
 use Rattle.translator.specs.StartSplit.{stored, startBy, startSplit}
+use Rattle.translator.proofs.Bare.{waiting-bare}
 
 -- the buffer is made, the places are numbered anew, and it is put in
-pub made : (t : Translator) (n : BufferNumber) (s : StartSplit) (l : List ℕ) {p : ℕ} {q : Payload} {bs : List Buffer} {r : Translator}
+pub made : (t : Translator) (n : BufferNumber) (s : StartSplit) (l : List ℕ) {p : ℕ} {q : Payload} {ss : List Slot} {bs : List Buffer} {r : Translator}
     → r ≡ withBuffer (record { buffers = bs; count = t .count; low = t .low }) n (record { slot = Pending s p; payload = q })
-    → bs ≡ ranked (t .buffers) → q ≡ payloadOf l → p ≡ waiting (t .buffers) → r ≡ stored t n s l
+    → bs ≡ ranked (t .buffers) → q ≡ payloadOf l → p ≡ waiting (bare ss) → ss ≡ slotsIn (t .buffers) → r ≡ stored t n s l
 unfolding stored
-made t n s l e f g h = rw (e, f, g, h)
+made t n s l e f g h i = rw (e, f, g, h, i, waiting-bare (t .buffers))
 
 -- what was chosen decides
 pub by-choice : (t : Translator) (s : StartSplit) (l : List ℕ) {k : Key} (c : Choice) → startFits s (length l) ≡ true → k ≡ keyOf s

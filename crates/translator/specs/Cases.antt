@@ -21,7 +21,7 @@ use Rattle.translator.specs.declared.CompleteAnswer.the-variants.{NoMatc
 use Rattle.translator.specs.declared.LaunchAnswer.{LaunchAnswer}
 use Rattle.translator.specs.declared.LaunchAnswer.the-variants.{NothingPending, Occupied, Launches}
 use Rattle.translator.specs.Translator.{newTranslator}
-use Rattle.translator.specs.Answers.{startNumber, resultPid, completeNumber, pidNumber, launchNumber, deliverNumber}
+use Rattle.translator.specs.Answers.{startNumber, resultPid, completeNumber, pidNumber, deliverNumber}
 use Rattle.translator.specs.StartSplit as starting
 use Rattle.translator.specs.CompleteSplit as completing
 use Rattle.translator.specs.Launch as launching

@@ -1,7 +1,7 @@
 -- What is shown of the translator's rules. A reader must believe the rules and these statements; the proofs are in proofs/.
 use Prim.Native.Nat.{ℕ, _≤_, _<_}
 use mathlib.Core.Path.{_≡_}
-use mathlib.Core.Bool.{Bool, true, false}
+use mathlib.Core.Bool.{true, false}
 use mathlib.Core.List.{List}
 use Rattle.payload.specs.Payload.{payloadOf}
 use Rattle.buffer.specs.declared.Key.{Key}
@@ -13,10 +13,8 @@ use Rattle.buffer.specs.declared.BufferNumber.{BufferNumber}
 use Rattle.buffer.specs.Buffer.{isPending}
 use Rattle.translator.specs.declared.LowSide.the-variants.{Running, Abandoned}
 use Rattle.translator.specs.declared.Translator.{Translator}
-use Rattle.translator.specs.declared.Choice.{Choice}
 use Rattle.translator.specs.declared.Choice.the-variants.{Reused, Took}
 use Rattle.translator.specs.declared.StartAnswer.the-variants.{Chosen}
-use Rattle.translator.specs.declared.CompleteAnswer.the-variants.{Gives}
 use Rattle.translator.specs.declared.LaunchAnswer.the-variants.{NothingPending, Launches}
 use Rattle.translator.specs.Translator.{at, newTranslator, emptied}
 use Rattle.translator.specs.Order.{atPlace, ranked}

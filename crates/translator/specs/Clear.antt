@@ -1,7 +1,5 @@
 -- ClearTTBuffer. A reader must believe: it empties the buffer of its key and no other; a transaction that runs there is abandoned.
-use Prim.Native.Nat.{ℕ}
-use mathlib.Core.Bool.{Bool, true, false, cond}
-use mathlib.Core.List.{List}
+use mathlib.Core.Bool.{cond}
 use lib.Dec.{eqb}
 use lib.ListN.{take, set}
 use Rattle.buffer.specs.declared.Key.{Key}

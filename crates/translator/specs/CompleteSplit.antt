@@ -1,7 +1,5 @@
 -- Complete-split. A reader must believe: it carries a key alone, and gives the result that the buffer of that key holds.
-use Prim.Native.Nat.{ℕ}
-use mathlib.Core.Bool.{Bool, true, false, cond}
-use mathlib.Core.List.{List}
+use mathlib.Core.Bool.{cond}
 use lib.ListN.{take}
 use Rattle.payload.specs.declared.Payload.{Payload}
 use Rattle.payload.specs.Payload.{noPayload}

@@ -1,6 +1,6 @@
 -- Deliver. A reader must believe: a result goes to the running transaction's buffer and to no other; while abandoned, to none.
 use Prim.Native.Nat.{ℕ}
-use mathlib.Core.Bool.{Bool, true, false, cond}
+use mathlib.Core.Bool.{cond}
 use mathlib.Core.List.{List}
 use lib.ListN.{length, set}
 use Rattle.payload.specs.Payload.{payloadOf}

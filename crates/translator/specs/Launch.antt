@@ -1,6 +1,4 @@
 -- Launch. A reader must believe: it gives the pending transaction that was stored earliest, and its buffer stays pending.
-use Prim.Native.Nat.{ℕ}
-use mathlib.Core.List.{List}
 use lib.ListN.{take}
 use Rattle.payload.specs.declared.Payload.{Payload}
 use Rattle.payload.specs.Payload.{noPayload}

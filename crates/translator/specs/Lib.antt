@@ -1,4 +1,5 @@
 pub mod Translator
+pub mod Slots
 pub mod Search
 pub mod Order
 pub mod StartSplit

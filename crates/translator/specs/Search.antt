@@ -1,7 +1,7 @@
 -- The search of a start-split. A reader must believe `chosen`: the two steps of document 01's rule. The code looks at each buffer
 -- once, in rising number, and carries `looked` on; that this gives the choice is proved.
 use Prim.Native.Nat.{ℕ, suc}
-use mathlib.Core.Bool.{Bool, true, false, cond}
+use mathlib.Core.Bool.{Bool, cond}
 use mathlib.Core.List.{List, [], _∷_}
 use Rattle.buffer.specs.declared.Key.{Key}
 use Rattle.buffer.specs.declared.Slot.{Slot}

@@ -1,6 +1,6 @@
 -- Start-split. A reader must believe: what was chosen decides; a repeat stores nothing, and what is stored is last in the order.
 use Prim.Native.Nat.{ℕ}
-use mathlib.Core.Bool.{Bool, true, false, cond}
+use mathlib.Core.Bool.{cond}
 use mathlib.Core.List.{List}
 use lib.ListN.{length, take, set}
 use Rattle.payload.specs.Payload.{payloadOf}

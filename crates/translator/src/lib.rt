@@ -3,6 +3,7 @@ ghost use mathlib.Core.Path.{_≡_};
 ghost use Prim.Native.Nat.{_+_, _≤_};
 ghost use lib.ListN.{take};
 ghost use Rattle.translator.specs.Translator.{newTranslator, at, withBuffer, withLow, emptied};
+ghost use Rattle.translator.specs.Slots.{slotsIn, bare};
 ghost use Rattle.translator.specs.Search.{looked, chosen, find};
 ghost use Rattle.buffer.specs.Buffer.{holds, isPending};
 ghost use Rattle.translator.specs.Order.{bit, isBefore, waiting, before, rankedIn, ranked, sooner, earliest};
@@ -128,36 +129,33 @@ fn look(sofar: Choice, standing: Standing, n: BufferNumber) -> Choice
     }
 }
 
-impl Translator {
-    // One pass over the buffers, in rising number.
-    fn choose(self, key: Key) -> Choice
-        ensures { λ r. ⌜ r ≡ chosen key (take (self .count) (self .buffers)) ⌝ }
-    {
-        let count = self.count as usize;
-        let mut sofar = Choice::NoRoom;
-        let mut i: usize = 0;
-        while i < 4 {
-            if count <= i {
-                return sofar;
-            }
-            let b = self.buffers[i];
-            let slot = b.slot;
-            sofar = look(sofar, slot.standing(key), BufferNumber(i as u8));
-            i += 1;
+// One pass over the slots of the first `count` buffers, in rising number.
+pub fn choose(slots: [Slot; 4], count: u8, key: Key) -> Choice
+    ensures { λ r. ⌜ r ≡ chosen key (take count (bare slots)) ⌝ }
+{
+    let used = count as usize;
+    let mut sofar = Choice::NoRoom;
+    let mut i: usize = 0;
+    while i < 4 {
+        if used <= i {
+            return sofar;
         }
-        sofar
+        let slot = slots[i];
+        sofar = look(sofar, slot.standing(key), BufferNumber(i as u8));
+        i += 1;
     }
+    sofar
+}
 
-    // The buffer that holds a key.
-    fn holder(self, key: Key) -> Found
-        ensures { λ r. ⌜ r ≡ find (holds key) (take (self .count) (self .buffers)) ⌝ }
-    {
-        match self.choose(key) {
-            Choice::NoRoom => Found::Nowhere,
-            Choice::Held(n) => Found::At(n),
-            Choice::Reused(n) => Found::At(n),
-            Choice::Took(_) => Found::Nowhere,
-        }
+// The buffer that holds a key.
+pub fn holder(slots: [Slot; 4], count: u8, key: Key) -> Found
+    ensures { λ r. ⌜ r ≡ find (holds key) (take count (bare slots)) ⌝ }
+{
+    match choose(slots, count, key) {
+        Choice::NoRoom => Found::Nowhere,
+        Choice::Held(n) => Found::At(n),
+        Choice::Reused(n) => Found::At(n),
+        Choice::Took(_) => Found::Nowhere,
     }
 }
 
@@ -176,10 +174,9 @@ fn how_many(a: bool, b: bool, c: bool, d: bool) -> u8
     bit_of(a) + (bit_of(b) + (bit_of(c) + bit_of(d)))
 }
 
-fn is_waiting(b: Buffer) -> bool
-    ensures { λ r. ⌜ r ≡ isPending (b .slot) ⌝ }
+fn is_waiting(slot: Slot) -> bool
+    ensures { λ r. ⌜ r ≡ isPending slot ⌝ }
 {
-    let slot = b.slot;
     match slot {
         Slot::Empty => false,
         Slot::Pending(_, _) => true,
@@ -188,10 +185,9 @@ fn is_waiting(b: Buffer) -> bool
     }
 }
 
-fn is_before(b: Buffer, place: u8) -> bool
-    ensures { λ r. ⌜ r ≡ isBefore place (b .slot) ⌝ }
+fn is_before(slot: Slot, place: u8) -> bool
+    ensures { λ r. ⌜ r ≡ isBefore place slot ⌝ }
 {
-    let slot = b.slot;
     match slot {
         Slot::Empty => false,
         Slot::Pending(_, other) => other < place,
@@ -200,38 +196,38 @@ fn is_before(b: Buffer, place: u8) -> bool
     }
 }
 
-fn count_waiting(bs: [Buffer; 4]) -> u8
-    ensures { λ r. ⌜ r ≡ waiting bs ⌝ }
+pub fn count_waiting(slots: [Slot; 4]) -> u8
+    ensures { λ r. ⌜ r ≡ waiting (bare slots) ⌝ }
 {
     how_many(
-        is_waiting(bs[0]),
-        is_waiting(bs[1]),
-        is_waiting(bs[2]),
-        is_waiting(bs[3]),
+        is_waiting(slots[0]),
+        is_waiting(slots[1]),
+        is_waiting(slots[2]),
+        is_waiting(slots[3]),
     )
 }
 
-fn rank_of(bs: [Buffer; 4], place: u8) -> u8
-    ensures { λ r. ⌜ r ≡ before place bs ⌝ }
+pub fn rank_of(slots: [Slot; 4], place: u8) -> u8
+    ensures { λ r. ⌜ r ≡ before place (bare slots) ⌝ }
 {
     how_many(
-        is_before(bs[0], place),
-        is_before(bs[1], place),
-        is_before(bs[2], place),
-        is_before(bs[3], place),
+        is_before(slots[0], place),
+        is_before(slots[1], place),
+        is_before(slots[2], place),
+        is_before(slots[3], place),
     )
 }
 
-// The buffer with its rank among all as its place, if it is pending.
-fn rerank(bs: [Buffer; 4], b: Buffer) -> Buffer
-    ensures { λ r. ⌜ r ≡ rankedIn bs b ⌝ }
+// The buffer with its rank among the slots as its place, if it is pending.
+fn rerank(slots: [Slot; 4], b: Buffer) -> Buffer
+    ensures { λ r. ⌜ r ≡ rankedIn (bare slots) b ⌝ }
 {
     let slot = b.slot;
     let payload = b.payload;
     match slot {
         Slot::Empty => b,
         Slot::Pending(split, place) => Buffer {
-            slot: Slot::Pending(split, rank_of(bs, place)),
+            slot: Slot::Pending(split, rank_of(slots, place)),
             payload,
         },
         Slot::Ready(_, _) => b,
@@ -239,13 +235,14 @@ fn rerank(bs: [Buffer; 4], b: Buffer) -> Buffer
     }
 }
 
-fn renumber(bs: [Buffer; 4]) -> [Buffer; 4]
+fn renumber(bs: [Buffer; 4], slots: [Slot; 4]) -> [Buffer; 4]
+    requires { ⌜ slots ≡ slotsIn bs ⌝ }
     ensures { λ r. ⌜ r ≡ ranked bs ⌝ }
 {
-    let b0 = rerank(bs, bs[0]);
-    let b1 = rerank(bs, bs[1]);
-    let b2 = rerank(bs, bs[2]);
-    let b3 = rerank(bs, bs[3]);
+    let b0 = rerank(slots, bs[0]);
+    let b1 = rerank(slots, bs[1]);
+    let b2 = rerank(slots, bs[2]);
+    let b3 = rerank(slots, bs[3]);
     [b0, b1, b2, b3]
 }
 
@@ -269,24 +266,58 @@ fn nearer(sofar: Earliest, slot: Slot, n: BufferNumber) -> Earliest
     }
 }
 
+// The pending buffer with the lowest place, of the first `count`.
+pub fn earliest_of(slots: [Slot; 4], count: u8) -> Earliest
+    ensures { λ r. ⌜ r ≡ earliest (take count (bare slots)) ⌝ }
+{
+    let used = count as usize;
+    let mut sofar = Earliest::NonePending;
+    let mut i: usize = 0;
+    while i < 4 {
+        if used <= i {
+            return sofar;
+        }
+        let slot = slots[i];
+        sofar = nearer(sofar, slot, BufferNumber(i as u8));
+        i += 1;
+    }
+    sofar
+}
+
+// ---- the decisions, by the slots alone
+
 impl Translator {
-    // The pending buffer with the lowest place.
+    pub fn slots(self) -> [Slot; 4]
+        ensures { λ r. ⌜ r ≡ slotsIn (self .buffers) ⌝ }
+    {
+        let buffers = self.buffers;
+        let a = buffers[0];
+        let b = buffers[1];
+        let c = buffers[2];
+        let d = buffers[3];
+        let w = a.slot;
+        let x = b.slot;
+        let y = c.slot;
+        let z = d.slot;
+        [w, x, y, z]
+    }
+
+    fn choose(self, key: Key) -> Choice
+        ensures { λ r. ⌜ r ≡ chosen key (take (self .count) (self .buffers)) ⌝ }
+    {
+        choose(self.slots(), self.count, key)
+    }
+
+    fn holder(self, key: Key) -> Found
+        ensures { λ r. ⌜ r ≡ find (holds key) (take (self .count) (self .buffers)) ⌝ }
+    {
+        holder(self.slots(), self.count, key)
+    }
+
     fn earliest(self) -> Earliest
         ensures { λ r. ⌜ r ≡ earliest (take (self .count) (self .buffers)) ⌝ }
     {
-        let count = self.count as usize;
-        let mut sofar = Earliest::NonePending;
-        let mut i: usize = 0;
-        while i < 4 {
-            if count <= i {
-                return sofar;
-            }
-            let b = self.buffers[i];
-            let slot = b.slot;
-            sofar = nearer(sofar, slot, BufferNumber(i as u8));
-            i += 1;
-        }
-        sofar
+        earliest_of(self.slots(), self.count)
     }
 }
 
@@ -355,12 +386,13 @@ impl Translator {
     {
         let old = self.buffers;
         let low = self.low;
-        let place = count_waiting(old);
+        let slots = self.slots();
+        let place = count_waiting(slots);
         let b = Buffer {
             slot: Slot::Pending(split, place),
             payload: Payload::of(payload),
         };
-        let buffers = renumber(old);
+        let buffers = renumber(old, slots);
         let ranks = Translator {
             buffers,
             count: self.count,
@@ -547,7 +579,7 @@ impl Translator {
 }
 
 // What comes with a result: data its payload, a handshake none.
-fn give(result: DeviceResult, payload: Payload) -> Payload
+pub fn give(result: DeviceResult, payload: Payload) -> Payload
     ensures { λ r. ⌜ r ≡ given result payload ⌝ }
 {
     if result.is_data() {

@@ -1,4 +1,4 @@
-use Rattle.area.specs.Read.{bufferOf}
+use Rattle.taken.specs.Read.{bufferOf}
 use borrow.Author.Needs.{needs}
 use Rattle.area.proofs.buffer_of.Statement.{statement}
 use Rattle.area.proofs.buffer_of.Tie as tie

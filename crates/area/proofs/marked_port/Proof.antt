@@ -1,5 +1,5 @@
 use mathlib.Core.Path.{refl}
-use Rattle.area.specs.Read.{markedPort}
+use Rattle.taken.specs.Read.{markedPort}
 use mathlib.Core.Path.{refl}
 use Rattle.area.proofs.marked_port.Statement.{statement}
 use Rattle.area.proofs.marked_port.Tie as tie

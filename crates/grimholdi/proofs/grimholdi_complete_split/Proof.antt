@@ -1,16 +1,14 @@
+use Rattle.grimholdi.proofs.Taken.{not-taken}
+use mathlib.Core.Path.{sym, _∙_}
 use borrow.Author.Needs.{needs}
-use Rattle.grimholdi.proofs.Ways.{settles-reply, refuses-reply}
 use Rattle.grimholdi.proofs.grimholdi_complete_split.Statement.{statement}
 use Rattle.grimholdi.proofs.grimholdi_complete_split.Tie as tie
 
-read-area-requires : tie.Need-read-area-requires
-read-area-requires c κs = search needs
+is-taken-requires : tie.Need-is-taken-requires
+is-taken-requires c κs = search needs
 
 complete-split-requires : tie.Need-complete-split-requires
-complete-split-requires c κs = search needs
-
-settle-reply-requires : tie.Need-settle-reply-requires
-settle-reply-requires c κs = search needs
+complete-split-requires c κs = sym (c .before .before .before .is-taken .ensures) ∙ c .before .before .if1 .taken
 
 same-length : tie.Need-same-length
 same-length c = search needs
@@ -19,10 +17,7 @@ same-length-2 : tie.Need-same-length-2
 same-length-2 c = search needs
 
 returns : tie.Need-returns
-returns c =
-    let called = c .before .before .before .before .before .before .before in
-    settles-reply _ _ (called .before .before .before .read-area .ensures) (called .before .before .if1 .taken) _ _ (called .complete-split .result)
-    (called .complete-split .ensures) _ _ _ (c .before .before .before .before .settle-reply .ensures)
+returns c = search needs
 
 plain-answer-requires : tie.Need-plain-answer-requires
 plain-answer-requires c κs = search needs
@@ -31,15 +26,14 @@ same-length-3 : tie.Need-same-length-3
 same-length-3 c = search needs
 
 returns-2 : tie.Need-returns-2
-returns-2 c = refuses-reply _ _ (c .before .before .read-area .ensures) (c .before .if1 .left) _ _ _ (c .plain-answer .ensures)
+returns-2 c = not-taken _ (sym (c .before .before .is-taken .ensures) ∙ c .before .if1 .left) _ _ _ (c .plain-answer .ensures)
 
 pub grimholdi-complete-split-spec : {M : Type 1} → statement M
 grimholdi-complete-split-spec =
     tie.close
     (tie.spec
-    read-area-requires
+    is-taken-requires
     complete-split-requires
-    settle-reply-requires
     same-length
     same-length-2
     returns

@@ -1,25 +1,20 @@
+use Rattle.grimholdi.proofs.Taken.{turned-away}
+use mathlib.Core.Path.{sym, _∙_}
 use borrow.Author.Needs.{needs}
-use Rattle.grimholdi.proofs.Ways.{settles, refuses}
 use Rattle.grimholdi.proofs.grimholdi_deliver.Statement.{statement}
 use Rattle.grimholdi.proofs.grimholdi_deliver.Tie as tie
 
-read-area-requires : tie.Need-read-area-requires
-read-area-requires c κs = search needs
+is-taken-requires : tie.Need-is-taken-requires
+is-taken-requires c κs = search needs
 
 deliver-requires : tie.Need-deliver-requires
-deliver-requires c κs = search needs
-
-settle-requires : tie.Need-settle-requires
-settle-requires c κs = search needs
+deliver-requires c κs = sym (c .before .before .is-taken .ensures) ∙ c .before .if1 .taken
 
 same-length : tie.Need-same-length
 same-length c = search needs
 
 returns : tie.Need-returns
-returns c =
-    let called = c .before .before .before .before in
-    settles _ _ (called .before .before .before .read-area .ensures) (called .before .before .if1 .taken) _ _ (called .deliver .result)
-    (called .deliver .ensures) _ _ (c .before .before .settle .ensures)
+returns c = search needs
 
 plain-answer-requires : tie.Need-plain-answer-requires
 plain-answer-requires c κs = search needs
@@ -28,15 +23,14 @@ same-length-2 : tie.Need-same-length-2
 same-length-2 c = search needs
 
 returns-2 : tie.Need-returns-2
-returns-2 c = refuses _ _ (c .before .before .read-area .ensures) (c .before .if1 .left) _ _ _ (c .plain-answer .ensures)
+returns-2 c = turned-away _ (sym (c .before .before .is-taken .ensures) ∙ c .before .if1 .left) _ _ (c .plain-answer .ensures)
 
 pub grimholdi-deliver-spec : {M : Type 1} → statement M
 grimholdi-deliver-spec =
     tie.close
     (tie.spec
-    read-area-requires
+    is-taken-requires
     deliver-requires
-    settle-requires
     same-length
     returns
     plain-answer-requires

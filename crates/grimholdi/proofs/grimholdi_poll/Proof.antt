@@ -1,5 +1,5 @@
+use Rattle.grimholdi.proofs.Ways.{gives-reply, poll-stays, refuses-reply}
 use borrow.Author.Needs.{needs}
-use Rattle.grimholdi.proofs.Ways.{settles-reply, refuses-reply}
 use Rattle.grimholdi.proofs.grimholdi_poll.Statement.{statement}
 use Rattle.grimholdi.proofs.grimholdi_poll.Tie as tie
 
@@ -9,8 +9,8 @@ read-area-requires c κs = search needs
 poll-requires : tie.Need-poll-requires
 poll-requires c κs = search needs
 
-settle-reply-requires : tie.Need-settle-reply-requires
-settle-reply-requires c κs = search needs
+give-reply-requires : tie.Need-give-reply-requires
+give-reply-requires c κs = search needs
 
 same-length : tie.Need-same-length
 same-length c = search needs
@@ -20,9 +20,9 @@ same-length-2 c = search needs
 
 returns : tie.Need-returns
 returns c =
-    let called = c .before .before .before .before .before .before .before in
-    settles-reply _ _ (called .before .before .before .read-area .ensures) (called .before .before .if1 .taken) _ _ (called .poll .result)
-    (called .poll .ensures) _ _ _ (c .before .before .before .before .settle-reply .ensures)
+    let called = c .before .before .before .before in
+    gives-reply _ _ (called .before .before .before .read-area .ensures) (called .before .before .if1 .taken) _ _ (called .poll .result) (called .poll .ensures) (poll-stays _ _) _ _
+    (c .before .before .give-reply .ensures)
 
 plain-answer-requires : tie.Need-plain-answer-requires
 plain-answer-requires c κs = search needs
@@ -39,7 +39,7 @@ grimholdi-poll-spec =
     (tie.spec
     read-area-requires
     poll-requires
-    settle-reply-requires
+    give-reply-requires
     same-length
     same-length-2
     returns

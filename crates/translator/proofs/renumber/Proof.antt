@@ -33,7 +33,7 @@ returns : tie.Need-returns
 returns c =
     let s = c .before .before .before .before .before .before .before .before in
     let l : length (s .args .t1) ≡ 4 = search needs in
-    ranked-four _ (s .args .t1) l (c .before .before .before .before .before .before .rerank .ensures) (c .before .before .before .before .rerank2 .ensures) (c .before .before .rerank3 .ensures) (c .rerank4 .ensures)
+    ranked-four _ (s .args .t1) l (s .pre) (c .before .before .before .before .before .before .rerank .ensures) (c .before .before .before .before .rerank2 .ensures) (c .before .before .rerank3 .ensures) (c .rerank4 .ensures)
 
 pub renumber-spec : {M : Type 1} → statement M
 renumber-spec =

@@ -1,77 +1,19 @@
+use mathlib.Core.Path.{_∙_}
+use Rattle.translator.proofs.Bare.{chosen-bare}
 use borrow.Author.Needs.{needs}
-use Prim.Native.Nat.{_-_}
-use mathlib.Core.Path.{_≡_, _∙_}
-use native.Mathlib.Omega.{arith}
-use lib.ListN.{take, length}
-use Rattle.translator.proofs.Lists.{unmapped}
-use Rattle.translator.specs.Search.{chosen}
-use Rattle.translator.proofs.Search.{Ahead, look-on, ended, looking, choosing}
 use Rattle.translator.proofs.Translator.choose.Statement.{statement}
 use Rattle.translator.proofs.Translator.choose.Tie as tie
 
-abbrev Inv-loop : tie.InvT-loop
-Inv-loop key self count sofar₀ i₀ sofar i = Ahead (looking key) (self .count) (self .buffers) (chosen key (take (self .count) (self .buffers))) i sofar
+slots-requires : tie.Need-slots-requires
+slots-requires c κs = search needs
 
-abbrev μ-loop : tie.MeasureT-loop
-μ-loop key self count sofar₀ i₀ sofar i = 4 - i
+choose-requires : tie.Need-choose-requires
+choose-requires c κs = search needs
 
--- the array has four buffers
-long : (c : tie.Start Inv-loop μ-loop) → length (c .args .t1 .buffers) ≡ 4
-long c = search (unmapped, needs)
-
-cast-count : tie.Need-cast-count Inv-loop μ-loop
-cast-count c = search needs
-
-loop-holds : tie.Need-loop-holds Inv-loop μ-loop
-loop-holds c = choosing _ _ _
-
-returns : tie.Need-returns Inv-loop μ-loop
-returns c = ended (c .before .before .loop .inv) (omega (arith, long (c .before .before .before)))
-
-mul-b : tie.Need-mul-b Inv-loop μ-loop
-mul-b c = search needs
-
-element-copy-out-b : tie.Need-element-copy-out-b Inv-loop μ-loop
-element-copy-out-b c = search needs
-
-standing-requires : tie.Need-standing-requires Inv-loop μ-loop
-standing-requires c κs = search needs
-
-cast-t16 : tie.Need-cast-t16 Inv-loop μ-loop
-cast-t16 c = search needs
-
-look-requires : tie.Need-look-requires Inv-loop μ-loop
-look-requires c κs = search needs
-
-add-i : tie.Need-add-i Inv-loop μ-loop
-add-i c = search needs
-
-loop-less : tie.Need-loop-less Inv-loop μ-loop
-loop-less c = search needs
-
-loop-again : tie.Need-loop-again Inv-loop μ-loop
-loop-again c =
-    let l = c .before .before .before .before .before in
-    look-on _ (l .loop .inv) (c .before .standing .ensures) (c .look .ensures) (omega arith) (omega (arith, long (l .before)))
-
-returns-2 : tie.Need-returns-2 Inv-loop μ-loop
-returns-2 c = ended (c .before .loop .inv) (omega (arith, long (c .before .before)))
+returns : tie.Need-returns
+returns c =
+    let t = c .before .before .args .self in
+    c .choose .ensures ∙ rw (c .before .slots .ensures) (chosen-bare _ (t .count) (t .buffers))
 
 pub choose-spec : {M : Type 1} → statement M
-choose-spec =
-    tie.close
-    (tie.spec
-    Inv-loop
-    μ-loop
-    cast-count
-    loop-holds
-    returns
-    mul-b
-    element-copy-out-b
-    standing-requires
-    cast-t16
-    look-requires
-    add-i
-    loop-less
-    loop-again
-    returns-2)
+choose-spec = tie.close (tie.spec slots-requires choose-requires returns)

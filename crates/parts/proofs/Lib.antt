@@ -1,0 +1,5 @@
+pub mod Over
+pub mod Got
+pub mod Anew
+pub mod Storing
+pub mod Exact

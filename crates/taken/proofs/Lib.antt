@@ -1,0 +1,4 @@
+pub mod Rows
+pub mod Sized
+pub mod Parts
+pub mod Ties
