@@ -215,7 +215,25 @@ static void attach(const microphone *mic)
     set_feature(GRIMHOLDI_PORT_RESET, mic->port);
 }
 
-/* Reads the bitmap and the status of each port in it; clears the changes. */
+static void print_status(uint8_t port, const uint8_t status[4])
+{
+    static const char *const changes[] = {
+        "C_PORT_CONNECTION", "C_PORT_ENABLE", "C_PORT_SUSPEND",
+        "C_PORT_OVER_CURRENT", "C_PORT_RESET"
+    };
+    int bit;
+
+    printf("%4u %5u  status %02X %02X %02X %02X", now, port,
+           status[0], status[1], status[2], status[3]);
+    for (bit = 0; bit < 5; bit++)
+        if (status[2] >> bit & 1)
+            printf("  %s", changes[bit]);
+    printf("\n");
+}
+
+/* Reads the bitmap and the status of each port in it; clears the changes.  A
+ * driver takes C_PORT_ENABLE for a report of babble: no port error happens
+ * here, so that an unplugged microphone shows C_PORT_CONNECTION alone. */
 static void serve_changes(void)
 {
     uint8_t bitmap;
@@ -233,9 +251,9 @@ static void serve_changes(void)
             continue;
         expect(request(GRIMHOLDI_TYPE_GET_PORT, GRIMHOLDI_REQUEST_GET_STATUS,
                        0, port, 4).number == GRIMHOLDI_DATA, "GetPortStatus");
-        printf("%4u %5u  status %02X %02X %02X %02X\n", now, port,
-               reply[0], reply[1], reply[2], reply[3]);
+        print_status(port, reply);
         changes = reply[2];
+        expect(!(changes & GRIMHOLDI_CHANGE_ENABLE), "C_PORT_ENABLE");
         for (bit = 0; bit < 5; bit++)
             if (changes >> bit & 1)
                 clear_feature(GRIMHOLDI_C_PORT_CONNECTION + bit, port);

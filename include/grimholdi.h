@@ -181,7 +181,7 @@ extern "C" {
 /* Change bits: last two bytes of GetPortStatus, little-endian. */
 
 #define GRIMHOLDI_CHANGE_CONNECTION     0x0001
-#define GRIMHOLDI_CHANGE_ENABLE         0x0002
+#define GRIMHOLDI_CHANGE_ENABLE         0x0002 /* by a port error alone */
 #define GRIMHOLDI_CHANGE_SUSPEND        0x0004
 #define GRIMHOLDI_CHANGE_OVER_CURRENT   0x0008
 #define GRIMHOLDI_CHANGE_RESET          0x0010
@@ -395,14 +395,17 @@ grimholdi_answer grimholdi_deliver(uint8_t *area, size_t area_len,
  *                  sets C_PORT_CONNECTION
  *                chirp: in Resetting at full speed, makes it high speed
  *                wake: from Suspended to Resuming
- *                port error: from Enabled to Disabled; the speed stays
+ *                port error: from Enabled to Disabled, sets C_PORT_ENABLE;
+ *                  the speed stays
  *                over-current on: from any configured state to Powered-off,
  *                  sets C_PORT_OVER_CURRENT; no effect if it is on
  *                over-current off: in any configured state, sets
  *                  C_PORT_OVER_CURRENT; no effect if it is off
  *   port         1 to the hub's number of ports
  *
- * An event that ends PORT_ENABLE also sets C_PORT_ENABLE.
+ * C_PORT_ENABLE reports a port error and nothing else: no other event, no
+ * request, tick or configuration sets it, also where it ends PORT_ENABLE.
+ * Change bits stay until they are cleared by ClearPortFeature or a bus reset.
  *
  * OUTSIDE  the area is refused, or a number is outside the rules
  * NOT_NOW  the hub is unconfigured, or the port is in another state

@@ -3,7 +3,7 @@
 
 Prints one line for each port and input of the table:
   port before | input | answer | port after | GetPortStatus bytes after
-With --self-test it runs bench cases P3 to P10 instead.
+With --self-test it runs bench cases P3 to P10 and those of C-12 instead.
 """
 
 import sys
@@ -50,13 +50,13 @@ CONFIGURATION = {"SetConfiguration 0": NOT_CONFIGURED,
                  "SetConfiguration 1": POWERED_OFF}
 
 # Line event: the states where it is named, the state it leads to, the change
-# bit it sets. C_PORT_ENABLE, chirp and over-current have their own rules.
+# bit it sets. Chirp and over-current have their own rules.
 LINE_EVENTS = {
     "attach low": ((DISCONNECTED,), DISABLED, C_PORT_CONNECTION),
     "attach full": ((DISCONNECTED,), DISABLED, C_PORT_CONNECTION),
     "detach": ((DISABLED, ENABLED, SUSPENDED), DISCONNECTED, C_PORT_CONNECTION),
     "wake": ((SUSPENDED,), RESUMING, 0),
-    "port error": ((ENABLED,), DISABLED, 0),
+    "port error": ((ENABLED,), DISABLED, C_PORT_ENABLE),
 }
 ATTACH_SPEED = {"attach low": "low", "attach full": "full"}
 OVER_CURRENT = {"over-current on": 1, "over-current off": 0}
@@ -145,8 +145,6 @@ def step(port, name):
     after = line_event(port, name)
     if after is None:
         return 8, port
-    if port.state in PORT_ENABLE and after.state not in PORT_ENABLE:
-        after = after._replace(changes=after.changes | C_PORT_ENABLE)
     return 0, after
 
 
@@ -185,13 +183,20 @@ def self_test():
     p4 = p3 + ["attach full"]
     p6 = p4 + ["set PORT_RESET"] + ["tick"] * 14
     p7 = p6 + ["tick"]
+    p10 = p7 + ["set PORT_SUSPEND"]
     cases = [("P3", p3, "00 01 00 00"),
              ("P4", p4, "01 01 01 00"),
              ("P5", p3 + ["attach low"], "01 03 01 00"),
              ("P6", p6, "11 01 01 00"),
              ("P7", p7, "03 01 11 00"),
-             ("P9", p7 + ["over-current on"], "08 00 1b 00"),
-             ("P10", p7 + ["set PORT_SUSPEND"], "07 01 11 00")]
+             ("P9", p7 + ["over-current on"], "08 00 19 00"),
+             ("P10", p10, "07 01 11 00"),
+             ("C-12", p4 + ["detach"], "00 01 01 00"),
+             ("C-12", p7 + ["detach"], "00 01 11 00"),
+             ("C-12", p10 + ["detach"], "00 01 11 00"),
+             ("C-12", p10 + ["wake", "over-current on"], "08 00 19 00"),
+             ("C-12", p7 + ["port error"], "01 01 13 00"),
+             ("C-12", p7 + ["port error", "detach"], "00 01 13 00")]
     for early in range(15):  # P8: chirp before each tick of the reset
         chirp = ["tick"] * early + ["chirp"] + ["tick"] * (15 - early)
         cases.append(("P8", p4 + ["set PORT_RESET"] + chirp, "03 05 11 00"))
@@ -201,7 +206,7 @@ def self_test():
             answer, port = step(port, name)
             assert answer == 0, (case, name, answer)
         assert port_status(port) == expected, (case, port_status(port))
-    print("P3 to P10 hold")
+    print("P3 to P10 and the cases of C-12 hold")
 
 
 if __name__ == "__main__":

@@ -164,6 +164,14 @@ static inline int status_is(uint16_t port, const char *bytes)
                          0, port, 4), bytes, 4);
 }
 
+/* The change bits that GetPortStatus gives. */
+static inline uint16_t port_changes(uint16_t port)
+{
+    CHECK(request(GRIMHOLDI_TYPE_GET_PORT, GRIMHOLDI_REQUEST_GET_STATUS,
+                  0, port, 4).number == GRIMHOLDI_DATA);
+    return (uint16_t)(reply[2] | reply[3] << 8);
+}
+
 /* All fields but the number are 0. */
 static inline int is_bare(grimholdi_answer answer)
 {

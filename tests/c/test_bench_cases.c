@@ -78,7 +78,7 @@ static void port_cases(void)
 
     enabled_port();
     CHECK(event(GRIMHOLDI_EVENT_OVER_CURRENT_ON, PORT) == GRIMHOLDI_DONE);
-    CHECK(status_is(PORT, "\x08\x00\x1B\x00"));                       /* P9 */
+    CHECK(status_is(PORT, "\x08\x00\x19\x00"));                       /* P9 */
 
     enabled_port();
     CHECK(set_feature(GRIMHOLDI_PORT_SUSPEND, PORT) == GRIMHOLDI_DONE);

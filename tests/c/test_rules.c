@@ -184,17 +184,64 @@ static void speed_is_kept_while_disabled(void)
     CHECK(status_is(PORT, "\x11\x01\x11\x00"));
 }
 
-static void enable_change_is_for_line_events(void)
+/* What each input but a port error leaves of a port that it takes out of
+ * PORT_ENABLE, or unplugs: C_PORT_ENABLE, bit 17, is in no status on the way. */
+static void enable_change_is_for_port_errors(void)
 {
+    enum { DISABLED = 2, ENABLED = 4, SUSPENDED = 5, RESUMING = 6 };
+    static const struct {
+        int state;
+        uint32_t event;
+        const char *status;
+    } ends[] = {
+        {DISABLED, GRIMHOLDI_EVENT_DETACH, "\x00\x01\x01\x00"},
+        {ENABLED, GRIMHOLDI_EVENT_DETACH, "\x00\x01\x11\x00"},
+        {SUSPENDED, GRIMHOLDI_EVENT_DETACH, "\x00\x01\x11\x00"},
+        {ENABLED, GRIMHOLDI_EVENT_OVER_CURRENT_ON, "\x08\x00\x19\x00"},
+        {SUSPENDED, GRIMHOLDI_EVENT_OVER_CURRENT_ON, "\x08\x00\x19\x00"},
+        {RESUMING, GRIMHOLDI_EVENT_OVER_CURRENT_ON, "\x08\x00\x19\x00"}
+    };
+    size_t i;
+    int steps;
+
+    for (i = 0; i < sizeof ends / sizeof *ends; i++) {
+        for (steps = 0; steps <= ends[i].state; steps++) {
+            port_after(steps, 2);
+            CHECK(!(port_changes(PORT) & GRIMHOLDI_CHANGE_ENABLE));
+        }
+        CHECK(event(ends[i].event, PORT) == GRIMHOLDI_DONE);
+        CHECK(status_is(PORT, ends[i].status));
+    }
+
     enabled_hub(2);
     CHECK(clear_feature(GRIMHOLDI_PORT_ENABLE, PORT) == GRIMHOLDI_DONE);
     CHECK(status_is(PORT, "\x01\x01\x11\x00"));
     enabled_hub(2);
+    CHECK(set_feature(GRIMHOLDI_PORT_RESET, PORT) == GRIMHOLDI_DONE);
+    CHECK(status_is(PORT, "\x11\x01\x11\x00"));
+    enabled_hub(2);
+    CHECK(set_configuration(1) == GRIMHOLDI_DONE);
+    CHECK(status_is(PORT, "\x00\x00\x11\x00"));
+}
+
+static void enable_change_stays_until_cleared(void)
+{
+    enabled_hub(2);
     CHECK(event(GRIMHOLDI_EVENT_PORT_ERROR, PORT) == GRIMHOLDI_DONE);
     CHECK(status_is(PORT, "\x01\x01\x13\x00"));
-    enabled_hub(2);
+    CHECK(event(GRIMHOLDI_EVENT_PORT_ERROR, PORT) == GRIMHOLDI_NOT_NOW);
     CHECK(event(GRIMHOLDI_EVENT_DETACH, PORT) == GRIMHOLDI_DONE);
     CHECK(status_is(PORT, "\x00\x01\x13\x00"));
+    CHECK(event(GRIMHOLDI_EVENT_OVER_CURRENT_ON, PORT) == GRIMHOLDI_DONE);
+    CHECK(status_is(PORT, "\x08\x00\x1B\x00"));
+    CHECK(clear_feature(GRIMHOLDI_C_PORT_ENABLE, PORT) == GRIMHOLDI_DONE);
+    CHECK(status_is(PORT, "\x08\x00\x19\x00"));
+
+    enabled_hub(2);
+    CHECK(event(GRIMHOLDI_EVENT_PORT_ERROR, PORT) == GRIMHOLDI_DONE);
+    CHECK(grimholdi_bus_reset(area, area_len).number == GRIMHOLDI_DONE);
+    CHECK(set_configuration(1) == GRIMHOLDI_DONE);
+    CHECK(status_is(PORT, "\x00\x00\x00\x00"));
 }
 
 static void over_current_levels(void)
@@ -323,7 +370,8 @@ int main(void)
     power_off_keeps_change_bits();
     resume_takes_22_ticks();
     speed_is_kept_while_disabled();
-    enable_change_is_for_line_events();
+    enable_change_is_for_port_errors();
+    enable_change_stays_until_cleared();
     over_current_levels();
     unconfigured_hub();
     bus_reset_gives_the_new_hub();

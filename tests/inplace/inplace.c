@@ -408,7 +408,6 @@ static void port_status(const uint8_t *port, uint8_t bytes[4])
 static int port_event(uint8_t *port, uint32_t event)
 {
     uint8_t state = port[STATE];
-    int was_enabled = is_enabled(port);
 
     switch (event) {
     case GRIMHOLDI_EVENT_ATTACH_LOW:
@@ -440,6 +439,7 @@ static int port_event(uint8_t *port, uint32_t event)
         if (state != ENABLED)
             return 0;
         go(port, DISABLED);
+        port[MARKS] |= GRIMHOLDI_CHANGE_ENABLE;
         break;
     case GRIMHOLDI_EVENT_OVER_CURRENT_ON:
         if (port[MARKS] & OVER_CURRENT)
@@ -454,8 +454,6 @@ static int port_event(uint8_t *port, uint32_t event)
         port[MARKS] |= GRIMHOLDI_CHANGE_OVER_CURRENT;
         break;
     }
-    if (was_enabled && !is_enabled(port))
-        port[MARKS] |= GRIMHOLDI_CHANGE_ENABLE;
     return 1;
 }
 

@@ -21,9 +21,11 @@ use Rattle.runs.specs.Machine.{Machine, newHubOf, rules, runFrom, run, afterFro
 use Rattle.runs.specs.Demand2.{Demand2}
 use Rattle.runs.specs.Demand3.{SameCalls, SameAnswers, AllExplained, Demand3}
 use Rattle.runs.specs.Order.{AllOrdered, LaunchOrder}
+use Rattle.runs.specs.ErrorReports.{AllShow, ErrorReports}
 use Rattle.runs.specs.Refusals.{Refusal, numberOf}
 use Rattle.runs.proofs.Theorems.{demand-3}
 use Rattle.runs.proofs.LineSteps.{launch-order}
+use Rattle.runs.proofs.Reporting.{error-reports}
 use Rattle.runs.proofs.Refusing.{refusals}
 use Rattle.area.specs.Written.{written}
 use Rattle.area.specs.Read.{readOf}
@@ -168,6 +170,9 @@ module _ (w : Machine) (d : Demand2 w) where
   carried-order : LaunchOrder w
   carried-order n cs = subst (AllOrdered []) (sym (d n cs)) (launch-order (w .numbers n) (map (w .call) cs))
 
+  carried-reports : ErrorReports w
+  carried-reports n cs = subst (AllShow []) (sym (d n cs)) (error-reports (w .numbers n) (map (w .call) cs))
+
 -- ---- refusals
 
 module _ (a : List ℕ) (x : Asked) where
@@ -221,4 +226,5 @@ entry-claims =
       area-follows = area-follows;
       demand-3 = carried-3 entries demand-2;
       launch-order = carried-order entries demand-2;
+      error-reports = carried-reports entries demand-2;
     }

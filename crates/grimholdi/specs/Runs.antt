@@ -14,6 +14,7 @@ use Rattle.runs.specs.Machine.{Machine, Numbers, afterFrom}
 use Rattle.runs.specs.Demand2.{Demand2, reachedBy}
 use Rattle.runs.specs.Demand3.{Demand3}
 use Rattle.runs.specs.Order.{LaunchOrder}
+use Rattle.runs.specs.ErrorReports.{ErrorReports}
 use Rattle.runs.specs.Refusals.{Refusal, numberOf, Due}
 use Rattle.area.specs.Written.{written, areaLength}
 use Rattle.grimholdi.specs.Entry.{Gave, refused, entry, newEntry}
@@ -117,3 +118,4 @@ pub record EntryClaims : Type 0 where
   pub area-follows : AreaFollows
   pub demand-3 : Demand3 entries
   pub launch-order : LaunchOrder entries
+  pub error-reports : ErrorReports entries

@@ -19,16 +19,21 @@ module _ (h : Hub) (c : Call) {o : Outcome} {n : ℕ} {w r s f : Bool} where
   unfolding step
   served-by g a b d i z e = e ∙ rw (← a, ← b, ← d, ← i, ← g, z)
 
--- what holds of every refusal, and of what the call's rule says where its checks let it pass
-pub by-step : (h : Hub) (c : Call) (P : Outcome → Type 0) → ((n : ℕ) → P (refuse n h))
+-- what holds of the four refusals, and of what the call's rule says where its checks let it pass
+pub by-checks : (h : Hub) (c : Call) (P : Outcome → Type 0) → P (refuse 6 h) → P (refuse 7 h) → P (refuse 5 h) → P (refuse 8 h)
     → (within h c ≡ true → fitting h c ≡ true → P (served h c)) → P (step h c)
 unfolding step
-by-step h c P refusal rule = go (within h c) (roomy c) (heard h c) (fitting h c) refl refl
+by-checks h c P outside short silent misplaced rule = go (within h c) (roomy c) (heard h c) (fitting h c) refl refl
   where
     go : (w r s f : Bool) → within h c ≡ w → fitting h c ≡ f
         → P (cond (eqb (firstRefusal w r s f) 0) (served h c) (refuse (firstRefusal w r s f) h))
     go true true true true a b = rule a b
-    go true true true false a b = refusal 8
-    go true true false f a b = refusal 5
-    go true false s f a b = refusal 7
-    go false r s f a b = refusal 6
+    go true true true false a b = misplaced
+    go true true false f a b = silent
+    go true false s f a b = short
+    go false r s f a b = outside
+
+-- the same for what holds of every refusal
+pub by-step : (h : Hub) (c : Call) (P : Outcome → Type 0) → ((n : ℕ) → P (refuse n h))
+    → (within h c ≡ true → fitting h c ≡ true → P (served h c)) → P (step h c)
+by-step h c P refusal rule = by-checks h c P (refusal 6) (refusal 7) (refusal 5) (refusal 8) rule

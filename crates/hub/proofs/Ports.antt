@@ -24,7 +24,7 @@ use Rattle.port.specs.Reaction.{Reaction, done, ruled, newPort}
 use Rattle.port.specs.Events.{attach, detach, chirp, wake, portError, overCurrentOn, overCurrentOff, eventRule}
 use Rattle.port.specs.Tick as ticking
 use Rattle.port.specs.Features.{setPower, setReset, setSuspend, clearEnable, clearSuspend, setRule}
-use Rattle.port.specs.Input.{Input, event, tick, setFeature, clearFeature, configure, unconfigure, after}
+use Rattle.port.specs.Input.{Input, event, tick, setFeature, clearFeature, configure, unconfigure, busReset, after}
 use Rattle.port.specs.Claims.{TimerBelowEnd}
 use Rattle.port.proofs.States.{by-state, row, each, next, next-state}
 use Rattle.ports.specs.declared.Sweep.{Sweep}
@@ -95,6 +95,7 @@ NotUnconfigure (setFeature f) = Unit {0}
 NotUnconfigure (clearFeature f) = Unit {0}
 NotUnconfigure configure = Unit {0}
 NotUnconfigure unconfigure = ⊥
+NotUnconfigure busReset = ⊥
 
 pub stays-configured : (p : Port) (i : Input) → NotUnconfigure i → isNotConfigured (p .state) ≡ false → isNotConfigured (after p i .state) ≡ false
 stays-configured p (event e) n h = ruled-same (eventRule e) (event-same e) p h
@@ -106,6 +107,7 @@ stays-configured p (clearFeature clearable.Power) n h = refl
 stays-configured p (clearFeature (clearable.Change b)) n h = h
 stays-configured p configure n h = refl
 stays-configured p unconfigure n h = absurd n
+stays-configured p busReset n h = absurd n
 
 -- ---- seven ports, of which the first n are the hub's
 

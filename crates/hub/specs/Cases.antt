@@ -1,5 +1,5 @@
--- Bench cases P1 to P13 of document 01, four ports, two buffers, and the three of its last line.
--- A reader must believe: each row has the calls of its case on a new hub, and all that document 01 answers to each of them.
+-- Bench cases P1 to P13 of document 01, four ports, two buffers, and the three of its last line; then the cases of C-12.
+-- A reader must believe: each row has the calls of its case on a new hub, and all that document 01, as C-12 corrects it, answers to each of them.
 use Prim.Native.Nat.{ℕ}
 use mathlib.Core.Path.{_≡_}
 use mathlib.Core.Bool.{Bool, true, false, _&&_}
@@ -35,6 +35,9 @@ getPortStatus port = Control (0xA3 ∷ 0x00 ∷ 0 ∷ 0 ∷ port ∷ 0 ∷ 4 ∷
 abbrev pub setPortFeature : ℕ → ℕ → Call
 setPortFeature feature port = Control (0x23 ∷ 0x03 ∷ feature ∷ 0 ∷ port ∷ 0 ∷ 0 ∷ 0 ∷ []) 64
 
+abbrev pub clearPortFeature : ℕ → ℕ → Call
+clearPortFeature feature port = Control (0x23 ∷ 0x01 ∷ feature ∷ 0 ∷ port ∷ 0 ∷ 0 ∷ 0 ∷ []) 64
+
 -- PORT_SUSPEND 2, PORT_RESET 4, PORT_POWER 8
 abbrev pub setSuspend : ℕ → Call
 setSuspend = setPortFeature 2
@@ -45,15 +48,28 @@ setReset = setPortFeature 4
 abbrev pub setPower : ℕ → Call
 setPower = setPortFeature 8
 
--- attach low 0, attach full 1, chirp 3, over-current on 6
+-- C_PORT_ENABLE 17
+abbrev pub clearEnableChange : ℕ → Call
+clearEnableChange = clearPortFeature 17
+
+-- attach low 0, attach full 1, detach 2, chirp 3, wake 4, port error 5, over-current on 6
 abbrev pub attachLow : ℕ → Call
 attachLow = Event 0
 
 abbrev pub attachFull : ℕ → Call
 attachFull = Event 1
 
+abbrev pub detach : ℕ → Call
+detach = Event 2
+
 abbrev pub chirp : ℕ → Call
 chirp = Event 3
+
+abbrev pub wake : ℕ → Call
+wake = Event 4
+
+abbrev pub portError : ℕ → Call
+portError = Event 5
 
 abbrev pub overCurrentOn : ℕ → Call
 overCurrentOn = Event 6
@@ -134,15 +150,18 @@ p6 = after p4 (setReset 2 ∷ (ticks 14 ++ getPortStatus 2 ∷ [])) (done ∷ (d
 abbrev pub p7 : Row
 p7 = after p6 (Tick ∷ getPortStatus 2 ∷ []) (done ∷ bytes (0x03 ∷ 0x01 ∷ 0x11 ∷ 0x00 ∷ []) ∷ [])
 
--- P8 chirp inside it: `03 05 11 00`.
+-- P8 chirp inside it: `03 05 11 00`; here at its start, and before its last tick.
 abbrev pub p8 : Row
 p8 =
     after p4 (setReset 2 ∷ chirp 2 ∷ (ticks 15 ++ getPortStatus 2 ∷ []))
     (done ∷ done ∷ (dones 15 ++ bytes (0x03 ∷ 0x05 ∷ 0x11 ∷ 0x00 ∷ []) ∷ []))
 
--- P9 after P7, over-current: `08 00 1B 00`.
+abbrev pub p8Late : Row
+p8Late = after p6 (chirp 2 ∷ Tick ∷ getPortStatus 2 ∷ []) (done ∷ done ∷ bytes (0x03 ∷ 0x05 ∷ 0x11 ∷ 0x00 ∷ []) ∷ [])
+
+-- P9 after P7, over-current: `08 00 19 00` (C-12).
 abbrev pub p9 : Row
-p9 = after p7 (overCurrentOn 2 ∷ getPortStatus 2 ∷ []) (done ∷ bytes (0x08 ∷ 0x00 ∷ 0x1B ∷ 0x00 ∷ []) ∷ [])
+p9 = after p7 (overCurrentOn 2 ∷ getPortStatus 2 ∷ []) (done ∷ bytes (0x08 ∷ 0x00 ∷ 0x19 ∷ 0x00 ∷ []) ∷ [])
 
 -- P10 after P7, suspend: `07 01 11 00`.
 abbrev pub p10 : Row
@@ -186,8 +205,37 @@ payload64 =
 abbrev pub room63 : Row
 room63 = record { calls = setConfiguration1 ∷ Poll 63 ∷ Poll 64 ∷ []; answers = done ∷ plainAnswer 7 ∷ plainAnswer 3 ∷ [] }
 
+-- ---- C-12: detach and over-current no longer set C_PORT_ENABLE, which is bit 1 of the third status byte
+
+-- Unplugged while Disabled (after P4), Enabled (after P7) and Suspended (after P10).
+abbrev pub unpluggedDisabled : Row
+unpluggedDisabled = after p4 (detach 2 ∷ getPortStatus 2 ∷ []) (done ∷ bytes (0x00 ∷ 0x01 ∷ 0x01 ∷ 0x00 ∷ []) ∷ [])
+
+abbrev pub unpluggedEnabled : Row
+unpluggedEnabled = after p7 (detach 2 ∷ getPortStatus 2 ∷ []) (done ∷ bytes (0x00 ∷ 0x01 ∷ 0x11 ∷ 0x00 ∷ []) ∷ [])
+
+abbrev pub unpluggedSuspended : Row
+unpluggedSuspended = after p10 (detach 2 ∷ getPortStatus 2 ∷ []) (done ∷ bytes (0x00 ∷ 0x01 ∷ 0x11 ∷ 0x00 ∷ []) ∷ [])
+
+-- After P10, wake, over-current in Resuming.
+abbrev pub overCurrentResuming : Row
+overCurrentResuming =
+    after p10 (wake 2 ∷ getPortStatus 2 ∷ overCurrentOn 2 ∷ getPortStatus 2 ∷ [])
+    (done ∷ bytes (0x07 ∷ 0x01 ∷ 0x11 ∷ 0x00 ∷ []) ∷ done ∷ bytes (0x08 ∷ 0x00 ∷ 0x19 ∷ 0x00 ∷ []) ∷ [])
+
+-- After P7, a port error sets it; it stays when the device is unplugged, until it is cleared.
+abbrev pub errorReported : Row
+errorReported =
+    after p7 (portError 2 ∷ getPortStatus 2 ∷ detach 2 ∷ getPortStatus 2 ∷ clearEnableChange 2 ∷ getPortStatus 2 ∷ [])
+    (done ∷ bytes (0x01 ∷ 0x01 ∷ 0x13 ∷ 0x00 ∷ [])
+    ∷ done ∷ bytes (0x00 ∷ 0x01 ∷ 0x13 ∷ 0x00 ∷ [])
+    ∷ done ∷ bytes (0x00 ∷ 0x01 ∷ 0x11 ∷ 0x00 ∷ []) ∷ [])
+
 abbrev pub table : List Row
-table = p1 ∷ p2 ∷ p3 ∷ p4 ∷ p5 ∷ p6 ∷ p7 ∷ p8 ∷ p9 ∷ p10 ∷ p11 ∷ p12 ∷ p13 ∷ noSuchPort ∷ payload64 ∷ room63 ∷ []
+table =
+    p1 ∷ p2 ∷ p3 ∷ p4 ∷ p5 ∷ p6 ∷ p7 ∷ p8 ∷ p8Late ∷ p9 ∷ p10 ∷ p11 ∷ p12 ∷ p13
+    ∷ noSuchPort ∷ payload64 ∷ room63
+    ∷ unpluggedDisabled ∷ unpluggedEnabled ∷ unpluggedSuspended ∷ overCurrentResuming ∷ errorReported ∷ []
 
 -- ---- the comparison
 

@@ -594,7 +594,7 @@ fn hub_claims()
     ensures { λ _. ⌜ HubClaims ⌝ }
 {}
 
-// P1 to P13.
+// P1 to P13, and the cases of C-12.
 fn bench_cases()
     ensures { λ _. ⌜ BenchCases ⌝ }
 {}

@@ -11,11 +11,11 @@ use Rattle.port.specs.declared.ChangeBit.the-variants.{Connection, Enabl
 use Rattle.port.specs.declared.Changes.{Changes}
 use Rattle.port.specs.declared.Port.{Port}
 use Rattle.port.specs.declared.ClearableFeature.the-variants as clearable
-use Rattle.port.specs.Reaction.{Reaction, refused, done, mark, marked, reacted, ruled}
+use Rattle.port.specs.Reaction.{Reaction, refused, done, mark, marked, reacted, ruled, noChanges}
 use Rattle.port.specs.Events.{eventRule}
 use Rattle.port.specs.Tick as ticking
 use Rattle.port.specs.Features.{setRule, clearEnable, clearSuspend, clearedBit}
-use Rattle.port.specs.Input.{Input, event, tick, setFeature, clearFeature, configure, unconfigure, after}
+use Rattle.port.specs.Input.{Input, event, tick, setFeature, clearFeature, configure, unconfigure, busReset, after}
 use Rattle.port.specs.Claims.{changeBit}
 
 pub by-bit : (P : ChangeBit → Type 0) → P Connection → P Enable → P Suspend → P OverCurrent → P Reset → (b : ChangeBit) → P b
@@ -59,16 +59,21 @@ others-kept Reset x c = by-bit (Kept Reset c) (λ n. refl) (λ n. refl) (λ n. r
 pub cleared : (b : ChangeBit) (c : Changes) → changeBit b (clearedBit b c) ≡ false
 cleared b c = by-bit (λ b. changeBit b (clearedBit b c) ≡ false) refl refl refl refl refl b
 
-pub change-stays : (b : ChangeBit) (p : Port) (i : Input) → ¬ (i ≡ clearFeature (clearable.Change b)) → Stays (p .changes) (after p i .changes) b
-change-stays b p (event e) n h = ruled-stays (eventRule e) p b h
-change-stays b p tick n h = ruled-stays ticking.tick p b h
-change-stays b p (setFeature f) n h = ruled-stays (setRule f) p b h
-change-stays b p (clearFeature clearable.Enable) n h = ruled-stays clearEnable p b h
-change-stays b p (clearFeature clearable.Suspend) n h = ruled-stays clearSuspend p b h
-change-stays b p (clearFeature clearable.Power) n h = h
-change-stays b p (clearFeature (clearable.Change x)) n h = rw (others-kept x b (p .changes) (λ e. n (cc))) h
-change-stays b p configure n h = h
-change-stays b p unconfigure n h = h
+pub none-set : (b : ChangeBit) → changeBit b noChanges ≡ false
+none-set b = by-bit (λ b. changeBit b noChanges ≡ false) refl refl refl refl refl b
+
+pub change-stays : (b : ChangeBit) (p : Port) (i : Input) → ¬ (i ≡ clearFeature (clearable.Change b)) → ¬ (i ≡ busReset)
+    → Stays (p .changes) (after p i .changes) b
+change-stays b p (event e) n r h = ruled-stays (eventRule e) p b h
+change-stays b p tick n r h = ruled-stays ticking.tick p b h
+change-stays b p (setFeature f) n r h = ruled-stays (setRule f) p b h
+change-stays b p (clearFeature clearable.Enable) n r h = ruled-stays clearEnable p b h
+change-stays b p (clearFeature clearable.Suspend) n r h = ruled-stays clearSuspend p b h
+change-stays b p (clearFeature clearable.Power) n r h = h
+change-stays b p (clearFeature (clearable.Change x)) n r h = rw (others-kept x b (p .changes) (λ e. n (cc))) h
+change-stays b p configure n r h = h
+change-stays b p unconfigure n r h = h
+change-stays b p busReset n r h = absurd (r refl)
 
 pub answers : (p : Port) (r : Reaction) → (reacted p r .number ≡ 0) ⊎ (reacted p r .number ≡ 8)
 answers p refused = inr refl

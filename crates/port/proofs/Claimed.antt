@@ -6,8 +6,8 @@ use Rattle.port.specs.Events.{eventRule}
 use Rattle.port.specs.Claims.{PortClaims}
 use Rattle.port.proofs.Timers.{timer-kept}
 use Rattle.port.proofs.Bits.{bits-back}
-use Rattle.port.proofs.ChangeBits.{change-stays, cleared, others-kept, answers, unchanged}
-use Rattle.port.proofs.EnableChange.{enable-set}
+use Rattle.port.proofs.ChangeBits.{change-stays, cleared, none-set, others-kept, answers, unchanged}
+use Rattle.port.proofs.EnableChange.{enable-change}
 
 pub port-claims : PortClaims
 port-claims =
@@ -19,8 +19,9 @@ port-claims =
       refused-unchanged = λ p e. unchanged p (eventRule e (p .overcurrent) (p .state));
       change-stays = change-stays;
       change-cleared = λ b p. cleared b (p .changes);
+      all-cleared = λ b p. none-set b;
       others-kept = λ b x p. others-kept b x (p .changes);
       state-kept = λ b p. refl;
       level-kept = λ b p. refl;
-      enable-set = enable-set;
+      enable-change = enable-change;
     }

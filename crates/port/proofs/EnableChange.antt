@@ -1,17 +1,15 @@
--- C_PORT_ENABLE is newly set exactly where a line event ends PORT_ENABLE.
+-- C_PORT_ENABLE is newly set exactly by a port error on an Enabled port.
 -- Assumes nothing.
 use Prim.Native.Nat.{ℕ, _+_}
-use mathlib.Core.Path.{_≡_, refl, _∙_, sym}
-use mathlib.Core.Bool.{Bool, true, false, cond}
+use mathlib.Core.Path.{_≡_, refl, ap, _∙_, sym}
+use mathlib.Core.Bool.{Bool, true, false, cond, not, true≢false}
 use mathlib.Core.List.{[], _∷_}
 use mathlib.Core.Logic.{_↔_}
-use native.Mathlib.Omega.{arith}
 use lib.Dec.{ltb}
 use Rattle.port.specs.declared.Speed.{Speed}
 use Rattle.port.specs.declared.Speed.the-variants.{Low, Full, High}
 use Rattle.port.specs.declared.PortState.{PortState}
-use Rattle.port.specs.declared.PortState.the-variants.{Resetting, Enabled, Resuming}
-use Rattle.port.specs.declared.ChangeBit.{ChangeBit}
+use Rattle.port.specs.declared.PortState.the-variants.{NotConfigured, PoweredOff, Disconnected, Disabled, Resetting, Enabled, Suspended, Resuming}
 use Rattle.port.specs.declared.ChangeBit.the-variants as bit
 use Rattle.port.specs.declared.Changes.{Changes}
 use Rattle.port.specs.declared.Port.{Port}
@@ -23,12 +21,10 @@ use Rattle.port.specs.declared.ClearableFeature.the-variants as clearabl
 use Rattle.port.specs.Reaction.{Reaction, refused, done, marked, reacted, ruled}
 use Rattle.port.specs.Events.{attach, detach, chirp, wake, portError, overCurrentOn, overCurrentOff, eventRule}
 use Rattle.port.specs.Tick as ticking
-use Rattle.port.specs.Features.{setPower, setReset, setSuspend, clearEnable, clearSuspend, setRule, clearedBit}
-use Rattle.port.specs.Status.{portEnable}
-use Rattle.port.specs.Input.{Input, event, tick, setFeature, clearFeature, configure, unconfigure, after}
-use Rattle.port.specs.Claims.{LineEventEndsEnable}
-use Rattle.port.proofs.States.{by-state, by-bool, row, each, next, next-state}
-use Rattle.port.proofs.ChangeBits.{by-bit}
+use Rattle.port.specs.Features.{setPower, setReset, setSuspend, clearEnable, clearSuspend, setRule}
+use Rattle.port.specs.Input.{Input, event, tick, setFeature, clearFeature, configure, unconfigure, busReset, after}
+use Rattle.port.specs.Claims.{ErrorWhileEnabled, EnableChange}
+use Rattle.port.proofs.States.{by-state, by-bool, row, each}
 
 -- C_PORT_ENABLE after a reaction
 abbrev bitAfter : Changes → Reaction → Bool
@@ -39,47 +35,44 @@ bit-after : (p : Port) (r : Reaction) → reacted p r .port .changes .enable ≡
 bit-after p refused = refl
 bit-after p (done s l bs) = refl
 
--- it is set where the first bit was 1 and the second is 0, else kept
-abbrev setIf : Bool → Bool → Bool → Bool
-setIf was is c = cond was (cond is c true) c
+never : {X : Type 0} → _≡_ {A = Bool} false true → X
+never h = absurd (true≢false (sym h))
 
--- a line event sets the bit where it ends PORT_ENABLE, and else keeps it
-abbrev lineBit : Changes → PortState → Reaction → Bool
-lineBit c s r = setIf (portEnable s) (portEnable (next s r)) (c .enable)
-
-abbrev Right : (Bool → PortState → Reaction) → Type 0
-Right rule = (c : Changes) (l : Bool) (s : PortState) → bitAfter c (rule l s) ≡ lineBit c s (rule l s)
-
+-- C_PORT_ENABLE is kept
 abbrev Quiet : (Bool → PortState → Reaction) → Type 0
 Quiet rule = (c : Changes) (l : Bool) (s : PortState) → bitAfter c (rule l s) ≡ c .enable
 
--- the two where all rows compute
-line : (rule : Bool → PortState → Reaction) (c : Changes) (l : Bool)
-    → ((v : Speed) (t : ℕ) → row (λ s. bitAfter c (rule l s)) v t ≡ row (λ s. lineBit c s (rule l s)) v t)
-    → (s : PortState) → bitAfter c (rule l s) ≡ lineBit c s (rule l s)
-line rule c l = each (λ s. bitAfter c (rule l s)) (λ s. lineBit c s (rule l s))
-
+-- where all rows compute
 still : (rule : Bool → PortState → Reaction) (c : Changes) (l : Bool)
     → ((v : Speed) (t : ℕ) → row (λ s. bitAfter c (rule l s)) v t ≡ row (λ s. c .enable) v t) → (s : PortState) → bitAfter c (rule l s) ≡ c .enable
 still rule c l = each (λ s. bitAfter c (rule l s)) (λ s. c .enable)
 
-chirp-speed : (c : Changes) (l : Bool) (v : Speed) (t : ℕ) → bitAfter c (chirp l (Resetting v t)) ≡ lineBit c (Resetting v t) (chirp l (Resetting v t))
+chirp-speed : (c : Changes) (l : Bool) (v : Speed) (t : ℕ) → bitAfter c (chirp l (Resetting v t)) ≡ c .enable
 chirp-speed c l Low t = refl
 chirp-speed c l Full t = refl
 chirp-speed c l High t = refl
 
-event-right : (e : LineEvent) → Right (eventRule e)
-event-right AttachLow c l = line (attach Low) c l (λ v t. refl)
-event-right AttachFull c l = line (attach Full) c l (λ v t. refl)
-event-right Detach c l = line detach c l (λ v t. refl)
-event-right Chirp c l =
-    by-state (λ s. bitAfter c (chirp l s) ≡ lineBit c s (chirp l s)) refl refl refl (λ v. refl) (chirp-speed c l) (λ v. refl) (λ v. refl) (λ v t. refl)
-event-right Wake c l = line wake c l (λ v t. refl)
-event-right PortError c l = line portError c l (λ v t. refl)
-event-right OverCurrentOn c true = line overCurrentOn c true (λ v t. refl)
-event-right OverCurrentOn c false = line overCurrentOn c false (λ v t. refl)
-event-right OverCurrentOff c true = line overCurrentOff c true (λ v t. refl)
-event-right OverCurrentOff c false = line overCurrentOff c false (λ v t. refl)
+abbrev pub isError : LineEvent → Bool
+isError AttachLow = false
+isError AttachFull = false
+isError Detach = false
+isError Chirp = false
+isError Wake = false
+isError PortError = true
+isError OverCurrentOn = false
+isError OverCurrentOff = false
+
+event-quiet : (e : LineEvent) → isError e ≡ false → Quiet (eventRule e)
+event-quiet AttachLow n c l = still (attach Low) c l (λ v t. refl)
+event-quiet AttachFull n c l = still (attach Full) c l (λ v t. refl)
+event-quiet Detach n c l = still detach c l (λ v t. refl)
+event-quiet Chirp n c l = by-state (λ s. bitAfter c (chirp l s) ≡ c .enable) refl refl refl (λ v. refl) (chirp-speed c l) (λ v. refl) (λ v. refl) (λ v t. refl)
+event-quiet Wake n c l = still wake c l (λ v t. refl)
+event-quiet PortError n c l = never (sym n)
+event-quiet OverCurrentOn n c true = still overCurrentOn c true (λ v t. refl)
+event-quiet OverCurrentOn n c false = still overCurrentOn c false (λ v t. refl)
+event-quiet OverCurrentOff n c true = still overCurrentOff c true (λ v t. refl)
+event-quiet OverCurrentOff n c false = still overCurrentOff c false (λ v t. refl)
 
 tick-quiet : Quiet ticking.tick
 tick-quiet c l =
@@ -100,42 +93,113 @@ enable-quiet c l = still clearEnable c l (λ v t. refl)
 suspend-quiet : Quiet clearSuspend
 suspend-quiet c l = still clearSuspend c l (λ v t. refl)
 
-never : {X : Type 0} → _≡_ {A = Bool} false true → X
-never h = let z : _≡_ {A = ℕ} 0 1 = cc in absurd (omega arith)
+-- ---- an input that is neither a port error nor clears C_PORT_ENABLE keeps it
 
-ended : (was is c : Bool) → c ≡ false → setIf was is c ≡ true → (was ≡ true) × (is ≡ false)
-ended true true c z h = never (sym z ∙ h)
-ended true false c z h = (refl, refl)
-ended false is c z h = never (sym z ∙ h)
+abbrev pub keeps : Input → Bool
+keeps (event e) = not (isError e)
+keeps tick = true
+keeps (setFeature f) = true
+keeps (clearFeature clearable.Enable) = true
+keeps (clearFeature clearable.Suspend) = true
+keeps (clearFeature clearable.Power) = true
+keeps (clearFeature (clearable.Change bit.Connection)) = true
+keeps (clearFeature (clearable.Change bit.Enable)) = false
+keeps (clearFeature (clearable.Change bit.Suspend)) = true
+keeps (clearFeature (clearable.Change bit.OverCurrent)) = true
+keeps (clearFeature (clearable.Change bit.Reset)) = true
+keeps configure = true
+keeps unconfigure = true
+keeps busReset = false
 
--- a line event, at the reaction
-by-line : (p : Port) (r : Reaction) → bitAfter (p .changes) r ≡ lineBit (p .changes) (p .state) r → p .changes .enable ≡ false
-    → (reacted p r .port .changes .enable ≡ true) ↔ ((portEnable (p .state) ≡ true) × (portEnable (reacted p r .port .state) ≡ false))
-by-line p r k z = (
-  λ h. rw (next-state p r) (ended (portEnable (p .state)) (portEnable (next (p .state) r)) (p .changes .enable) z (sym k ∙ sym (bit-after p r) ∙ h)),
-  λ h. rw (bit-after p r, k, h .0, rw (next-state p r) at (h .1)),
-)
+at-port : (rule : Bool → PortState → Reaction) → Quiet rule → (p : Port) → ruled rule p .port .changes .enable ≡ p .changes .enable
+at-port rule q p = bit-after p (rule (p .overcurrent) (p .state)) ∙ q (p .changes) (p .overcurrent) (p .state)
 
-quiet : (p : Port) (i : Input) → after p i .changes .enable ≡ false → (LineEventEndsEnable p i → _≡_ {A = Bool} false true)
-    → (after p i .changes .enable ≡ true) ↔ LineEventEndsEnable p i
-quiet p i k n = (λ h. never (sym k ∙ h), λ h. never (n h))
+not-error : (e : LineEvent) → not (isError e) ≡ true → isError e ≡ false
+not-error e k = by-bool (λ b. not b ≡ true → b ≡ false) (λ h. sym h) (λ h. refl) (isError e) k
 
-still-clear : (b : ChangeBit) (c : Changes) → c .enable ≡ false → clearedBit b c .enable ≡ false
-still-clear b c z = by-bit (λ b. clearedBit b c .enable ≡ false) z refl z z z b
+pub enable-kept : (p : Port) (i : Input) → keeps i ≡ true → after p i .changes .enable ≡ p .changes .enable
+enable-kept p (event e) k = at-port (eventRule e) (event-quiet e (not-error e k)) p
+enable-kept p tick k = at-port ticking.tick tick-quiet p
+enable-kept p (setFeature f) k = at-port (setRule f) (set-quiet f) p
+enable-kept p (clearFeature clearable.Enable) k = at-port clearEnable enable-quiet p
+enable-kept p (clearFeature clearable.Suspend) k = at-port clearSuspend suspend-quiet p
+enable-kept p (clearFeature clearable.Power) k = refl
+enable-kept p (clearFeature (clearable.Change bit.Connection)) k = refl
+enable-kept p (clearFeature (clearable.Change bit.Enable)) k = never k
+enable-kept p (clearFeature (clearable.Change bit.Suspend)) k = refl
+enable-kept p (clearFeature (clearable.Change bit.OverCurrent)) k = refl
+enable-kept p (clearFeature (clearable.Change bit.Reset)) k = refl
+enable-kept p configure k = refl
+enable-kept p unconfigure k = refl
+enable-kept p busReset k = never k
 
-at-port : (rule : Bool → PortState → Reaction) → Quiet rule → (p : Port) → p .changes .enable ≡ false → ruled rule p .port .changes .enable ≡ false
-at-port rule q p z = bit-after p (rule (p .overcurrent) (p .state)) ∙ q (p .changes) (p .overcurrent) (p .state) ∙ z
+-- ---- a port error
 
-pub enable-set : (p : Port) (i : Input) → p .changes .enable ≡ false → (after p i .changes .enable ≡ true) ↔ LineEventEndsEnable p i
-enable-set p (event e) z =
-    let r = eventRule e (p .overcurrent) (p .state) in
-    let w = by-line p r (event-right e (p .changes) (p .overcurrent) (p .state)) z in
-    (λ h. record { line-event = refl; read-1 = w .0 h .0; reads-0 = w .0 h .1 }, λ h. w .1 (h .read-1, h .reads-0))
-enable-set p tick z = quiet p tick (at-port ticking.tick tick-quiet p z) (λ h. h .line-event)
-enable-set p (setFeature f) z = quiet p (setFeature f) (at-port (setRule f) (set-quiet f) p z) (λ h. h .line-event)
-enable-set p (clearFeature clearable.Enable) z = quiet p (clearFeature clearable.Enable) (at-port clearEnable enable-quiet p z) (λ h. h .line-event)
-enable-set p (clearFeature clearable.Suspend) z = quiet p (clearFeature clearable.Suspend) (at-port clearSuspend suspend-quiet p z) (λ h. h .line-event)
-enable-set p (clearFeature clearable.Power) z = quiet p (clearFeature clearable.Power) z (λ h. h .line-event)
-enable-set p (clearFeature (clearable.Change b)) z = quiet p (clearFeature (clearable.Change b)) (still-clear b (p .changes) z) (λ h. h .line-event)
-enable-set p configure z = quiet p configure z (λ h. h .line-event)
-enable-set p unconfigure z = quiet p unconfigure z (λ h. h .line-event)
+abbrev isEnabled : PortState → Bool
+isEnabled NotConfigured = false
+isEnabled PoweredOff = false
+isEnabled Disconnected = false
+isEnabled (Disabled v) = false
+isEnabled (Resetting v t) = false
+isEnabled (Enabled v) = true
+isEnabled (Suspended v) = false
+isEnabled (Resuming v t) = false
+
+abbrev Errs : Port → PortState → Type 0
+Errs p s = (bitAfter (p .changes) (portError (p .overcurrent) s) ≡ true) ↔ ((v : Speed) × (s ≡ Enabled v))
+
+errs : (p : Port) → p .changes .enable ≡ false → (s : PortState) → Errs p s
+errs p z =
+    by-state (Errs p) (off refl) (off refl) (off refl) (λ v. off refl) (λ v t. off refl) (λ v. (λ h. (v, refl), λ h. refl)) (λ v. off refl) (λ v t. off refl)
+  where
+    off : {s : PortState} → isEnabled s ≡ false → (p .changes .enable ≡ true) ↔ ((v : Speed) × (s ≡ Enabled v))
+    off n = (λ h. never (sym z ∙ h), λ h. never (sym n ∙ ap isEnabled (h .1)))
+
+by-error : (p : Port) → p .changes .enable ≡ false → (after p (event PortError) .changes .enable ≡ true) ↔ ErrorWhileEnabled p (event PortError)
+by-error p z =
+    let r = portError (p .overcurrent) (p .state) in
+    let w = errs p z (p .state) in (
+      λ h. let x = w .0 (sym (bit-after p r) ∙ h) in record { port-error = refl; speed = x .0; enabled = x .1 },
+      λ h. bit-after p r ∙ w .1 (h .speed, h .enabled),
+    )
+
+abbrev pub isPortError : Input → Bool
+isPortError (event e) = isError e
+isPortError tick = false
+isPortError (setFeature f) = false
+isPortError (clearFeature f) = false
+isPortError configure = false
+isPortError unconfigure = false
+isPortError busReset = false
+
+pub enable-change : EnableChange after
+enable-change p i z = go i
+  where
+    unset : (i : Input) → isPortError i ≡ false → after p i .changes .enable ≡ false → (after p i .changes .enable ≡ true) ↔ ErrorWhileEnabled p i
+    unset i n u = (λ h. never (sym u ∙ h), λ h. never (sym n ∙ ap isPortError (h .port-error)))
+
+    kept : (i : Input) → isPortError i ≡ false → keeps i ≡ true → (after p i .changes .enable ≡ true) ↔ ErrorWhileEnabled p i
+    kept i n k = unset i n (enable-kept p i k ∙ z)
+
+    go : (i : Input) → (after p i .changes .enable ≡ true) ↔ ErrorWhileEnabled p i
+    go (event AttachLow) = kept (event AttachLow) refl refl
+    go (event AttachFull) = kept (event AttachFull) refl refl
+    go (event Detach) = kept (event Detach) refl refl
+    go (event Chirp) = kept (event Chirp) refl refl
+    go (event Wake) = kept (event Wake) refl refl
+    go (event PortError) = by-error p z
+    go (event OverCurrentOn) = kept (event OverCurrentOn) refl refl
+    go (event OverCurrentOff) = kept (event OverCurrentOff) refl refl
+    go tick = kept tick refl refl
+    go (setFeature f) = kept (setFeature f) refl refl
+    go (clearFeature clearable.Enable) = kept (clearFeature clearable.Enable) refl refl
+    go (clearFeature clearable.Suspend) = kept (clearFeature clearable.Suspend) refl refl
+    go (clearFeature clearable.Power) = kept (clearFeature clearable.Power) refl refl
+    go (clearFeature (clearable.Change bit.Connection)) = kept (clearFeature (clearable.Change bit.Connection)) refl refl
+    go (clearFeature (clearable.Change bit.Enable)) = unset (clearFeature (clearable.Change bit.Enable)) refl refl
+    go (clearFeature (clearable.Change bit.Suspend)) = kept (clearFeature (clearable.Change bit.Suspend)) refl refl
+    go (clearFeature (clearable.Change bit.OverCurrent)) = kept (clearFeature (clearable.Change bit.OverCurrent)) refl refl
+    go (clearFeature (clearable.Change bit.Reset)) = kept (clearFeature (clearable.Change bit.Reset)) refl refl
+    go configure = kept configure refl refl
+    go unconfigure = kept unconfigure refl refl
+    go busReset = unset busReset refl refl

@@ -5,3 +5,4 @@ pub mod Bits
 pub mod ChangeBits
 pub mod EnableChange
 pub mod Claimed
+pub mod Refuted

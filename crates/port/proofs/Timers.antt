@@ -22,7 +22,7 @@ use Rattle.port.specs.Reaction.{Reaction, done, ruled}
 use Rattle.port.specs.Events.{attach, detach, chirp, wake, portError, overCurrentOn, overCurrentOff, eventRule}
 use Rattle.port.specs.Tick as ticking
 use Rattle.port.specs.Features.{setPower, setReset, setSuspend, clearEnable, clearSuspend, setRule}
-use Rattle.port.specs.Input.{Input, event, tick, setFeature, clearFeature, configure, unconfigure, after}
+use Rattle.port.specs.Input.{Input, event, tick, setFeature, clearFeature, configure, unconfigure, busReset, after}
 use Rattle.port.specs.Claims.{TimerBelowEnd}
 use Rattle.port.proofs.States.{by-state, next, next-state}
 
@@ -95,3 +95,4 @@ timer-kept p (clearFeature clearable.Power) h = tt
 timer-kept p (clearFeature (clearable.Change b)) h = h
 timer-kept p configure h = tt
 timer-kept p unconfigure h = tt
+timer-kept p busReset h = tt

@@ -6,6 +6,7 @@ use mathlib.Core.Bool.{Bool, true, false}
 use mathlib.Core.List.{List, [], _∷_, map}
 use mathlib.Core.Logic.{_↔_, _⊎_}
 use lib.Dec.{eqb}
+use Rattle.port.specs.declared.Speed.{Speed}
 use Rattle.port.specs.declared.PortState.{PortState}
 use Rattle.port.specs.declared.PortState.the-variants.{NotConfigured, PoweredOff, Disconnected, Disabled, Resetting, Enabled, Suspended, Resuming}
 use Rattle.port.specs.declared.ChangeBit.{ChangeBit}
@@ -13,11 +14,12 @@ use Rattle.port.specs.declared.ChangeBit.the-variants.{Connection, Enabl
 use Rattle.port.specs.declared.Changes.{Changes}
 use Rattle.port.specs.declared.Port.{Port}
 use Rattle.port.specs.declared.LineEvent.{LineEvent}
+use Rattle.port.specs.declared.LineEvent.the-variants.{PortError}
 use Rattle.port.specs.declared.ClearableFeature.the-variants.{Change}
 use Rattle.port.specs.Reaction.{newPort}
 use Rattle.port.specs.Events.{lineEvent}
-use Rattle.port.specs.Status.{portEnable, statusBits, statusBytes}
-use Rattle.port.specs.Input.{Input, event, tick, setFeature, clearFeature, configure, unconfigure, after}
+use Rattle.port.specs.Status.{statusBits, statusBytes}
+use Rattle.port.specs.Input.{Input, event, clearFeature, busReset, after}
 
 -- has timers below their ends: 15 ticks in Resetting, 22 in Resuming
 abbrev pub TimerBelowEnd : PortState → Type 0
@@ -43,20 +45,15 @@ changeBit Suspend c = c .suspend
 changeBit OverCurrent c = c .overcurrent
 changeBit Reset c = c .reset
 
--- a line event, not a request
-abbrev pub isLineEvent : Input → Bool
-isLineEvent (event e) = true
-isLineEvent tick = false
-isLineEvent (setFeature f) = false
-isLineEvent (clearFeature f) = false
-isLineEvent configure = false
-isLineEvent unconfigure = false
+-- a port error on an Enabled port, at any speed
+pub record ErrorWhileEnabled (p : Port) (i : Input) : Type 0 where
+  pub port-error : i ≡ event PortError
+  pub speed : Speed
+  pub enabled : p .state ≡ Enabled speed
 
--- a line event ends PORT_ENABLE
-pub record LineEventEndsEnable (p : Port) (i : Input) : Type 0 where
-  pub line-event : isLineEvent i ≡ true
-  pub read-1 : portEnable (p .state) ≡ true
-  pub reads-0 : portEnable (after p i .state) ≡ false
+-- of a rule that moves ports: C_PORT_ENABLE is newly set exactly by a port error on an Enabled port, whatever the port and the input
+abbrev pub EnableChange : (Port → Input → Port) → Type 0
+EnableChange rule = (p : Port) (i : Input) → p .changes .enable ≡ false → (rule p i .changes .enable ≡ true) ↔ ErrorWhileEnabled p i
 
 pub record PortClaims : Type 0 where
   -- every port has its timer below its end
@@ -67,14 +64,14 @@ pub record PortClaims : Type 0 where
   -- 8 not in this state: nothing changed
   pub event-answers : (p : Port) (e : LineEvent) → (lineEvent p e .number ≡ 0) ⊎ (lineEvent p e .number ≡ 8)
   pub refused-unchanged : (p : Port) (e : LineEvent) → lineEvent p e .number ≡ 8 → lineEvent p e .port ≡ p
-  -- Change bits stay until cleared by request
-  pub change-stays : (b : ChangeBit) (p : Port) (i : Input) → ¬ (i ≡ clearFeature (Change b))
+  -- Change bits stay until cleared by request or bus reset
+  pub change-stays : (b : ChangeBit) (p : Port) (i : Input) → ¬ (i ≡ clearFeature (Change b)) → ¬ (i ≡ busReset)
       → changeBit b (p .changes) ≡ true → changeBit b (after p i .changes) ≡ true
   pub change-cleared : (b : ChangeBit) (p : Port) → changeBit b (after p (clearFeature (Change b)) .changes) ≡ false
+  pub all-cleared : (b : ChangeBit) (p : Port) → changeBit b (after p busReset .changes) ≡ false
   pub others-kept : (b x : ChangeBit) (p : Port) → ¬ (x ≡ b)
       → changeBit x (after p (clearFeature (Change b)) .changes) ≡ changeBit x (p .changes)
   pub state-kept : (b : ChangeBit) (p : Port) → after p (clearFeature (Change b)) .state ≡ p .state
   pub level-kept : (b : ChangeBit) (p : Port) → after p (clearFeature (Change b)) .overcurrent ≡ p .overcurrent
-  -- C_PORT_ENABLE is set whenever a line event, not a request or bus reset, ends PORT_ENABLE, and only then
-  pub enable-set : (p : Port) (i : Input) → p .changes .enable ≡ false
-      → (after p i .changes .enable ≡ true) ↔ LineEventEndsEnable p i
+  -- C-12 (USB 2.0, 11.24.2.7.2.2): C_PORT_ENABLE is set for a port error alone
+  pub enable-change : EnableChange after

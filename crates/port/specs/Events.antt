@@ -1,6 +1,5 @@
 -- The line events of document 01, state by state.
--- Believe: events elsewhere than named answer 8. C_PORT_ENABLE is set whenever a line event ends PORT_ENABLE.
--- PORT_ENABLE reads 1 in Enabled, Suspended and Resuming.
+-- Believe: events elsewhere than named answer 8. Detach and over-current no longer set C_PORT_ENABLE (C-12): a port error alone does.
 use mathlib.Core.Bool.{Bool, true, false, cond}
 use mathlib.Core.List.{[], _∷_}
 use Rattle.port.specs.declared.Speed.{Speed}
@@ -31,8 +30,8 @@ detach l PoweredOff = refused
 detach l Disconnected = refused
 detach l (Disabled s) = done Disconnected l (Connection ∷ [])
 detach l (Resetting s t) = refused
-detach l (Enabled s) = done Disconnected l (Connection ∷ Enable ∷ [])
-detach l (Suspended s) = done Disconnected l (Connection ∷ Enable ∷ [])
+detach l (Enabled s) = done Disconnected l (Connection ∷ [])
+detach l (Suspended s) = done Disconnected l (Connection ∷ [])
 detach l (Resuming s t) = refused
 
 -- chirp: Resetting at full speed; speed becomes high
@@ -59,7 +58,8 @@ wake l (Enabled s) = refused
 wake l (Suspended s) = done (Resuming s 0) l []
 wake l (Resuming s t) = refused
 
--- port error: Enabled to Disabled
+-- port error: Enabled to Disabled. USB 2.0, 11.24.2.7.2.2: C_PORT_ENABLE is set when PORT_ENABLE changes from one to zero as a result of a
+-- port error, and not on any other change to PORT_ENABLE
 abbrev pub portError : Bool → PortState → Reaction
 portError l NotConfigured = refused
 portError l PoweredOff = refused
@@ -78,9 +78,9 @@ overCurrentOn l PoweredOff = cond l (done PoweredOff l []) (done PoweredOff true
 overCurrentOn l Disconnected = cond l (done Disconnected l []) (done PoweredOff true (OverCurrent ∷ []))
 overCurrentOn l (Disabled s) = cond l (done (Disabled s) l []) (done PoweredOff true (OverCurrent ∷ []))
 overCurrentOn l (Resetting s t) = cond l (done (Resetting s t) l []) (done PoweredOff true (OverCurrent ∷ []))
-overCurrentOn l (Enabled s) = cond l (done (Enabled s) l []) (done PoweredOff true (OverCurrent ∷ Enable ∷ []))
-overCurrentOn l (Suspended s) = cond l (done (Suspended s) l []) (done PoweredOff true (OverCurrent ∷ Enable ∷ []))
-overCurrentOn l (Resuming s t) = cond l (done (Resuming s t) l []) (done PoweredOff true (OverCurrent ∷ Enable ∷ []))
+overCurrentOn l (Enabled s) = cond l (done (Enabled s) l []) (done PoweredOff true (OverCurrent ∷ []))
+overCurrentOn l (Suspended s) = cond l (done (Suspended s) l []) (done PoweredOff true (OverCurrent ∷ []))
+overCurrentOn l (Resuming s t) = cond l (done (Resuming s t) l []) (done PoweredOff true (OverCurrent ∷ []))
 
 -- over-current off: any configured state. A changed level sets C_PORT_OVER_CURRENT; the same level again is done with no effect
 abbrev pub overCurrentOff : Bool → PortState → Reaction

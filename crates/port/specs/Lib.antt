@@ -6,4 +6,4 @@ pub mod Configuration
 pub mod Status
 pub mod Input
 pub mod Claims
-pub mod Cases
+pub mod Mistakes

@@ -44,7 +44,7 @@ ghost use Rattle.port.specs.Status.{
   hasChange,
 };
 ghost use Rattle.port.specs.Claims.{PortClaims};
-ghost use Rattle.port.specs.Cases.{CasesHold};
+ghost use Rattle.port.specs.Mistakes.{EnableMistakesShutOut};
 
 // A port's number, counted from 1.
 pub struct PortNumber(pub u32);
@@ -315,18 +315,8 @@ impl Port {
         let state = self.state;
         let mut changes = self.changes;
         match state {
-            PortState::Disabled(_) => {
+            PortState::Disabled(_) | PortState::Enabled(_) | PortState::Suspended(_) => {
                 changes.connection = true;
-                done(PortState::Disconnected, self.overcurrent, changes)
-            }
-            PortState::Enabled(_) => {
-                changes.connection = true;
-                changes.enable = true;
-                done(PortState::Disconnected, self.overcurrent, changes)
-            }
-            PortState::Suspended(_) => {
-                changes.connection = true;
-                changes.enable = true;
                 done(PortState::Disconnected, self.overcurrent, changes)
             }
             _ => refused(self),
@@ -367,6 +357,7 @@ impl Port {
         }
     }
 
+    // Alone sets C_PORT_ENABLE (USB 2.0, 11.24.2.7.2.2).
     fn port_error(self) -> Stepped
         ensures { λ r. ⌜ answered r ≡ ruled portError self ⌝ }
     {
@@ -388,15 +379,6 @@ impl Port {
         let mut changes = self.changes;
         match state {
             PortState::NotConfigured => refused(self),
-            PortState::Enabled(_) | PortState::Suspended(_) | PortState::Resuming(_, _) => {
-                if self.overcurrent {
-                    done(state, self.overcurrent, changes)
-                } else {
-                    changes.overcurrent = true;
-                    changes.enable = true;
-                    done(PortState::PoweredOff, true, changes)
-                }
-            }
             _ => {
                 if self.overcurrent {
                     done(state, self.overcurrent, changes)
@@ -746,7 +728,7 @@ fn port_claims()
     ensures { λ _. ⌜ PortClaims ⌝ }
 {}
 
-// Bench cases P3 to P10 of one port; the function does nothing.
-fn port_cases()
-    ensures { λ _. ⌜ CasesHold ⌝ }
+// Rules with one mistake in what sets C_PORT_ENABLE break the claim on it; the function does nothing.
+fn enable_mistakes_shut_out()
+    ensures { λ _. ⌜ EnableMistakesShutOut ⌝ }
 {}

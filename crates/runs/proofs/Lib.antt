@@ -8,7 +8,9 @@ pub mod Theorems
 pub mod Line
 pub mod LineSteps
 pub mod Reaching
+pub mod Reporting
 pub mod Refusing
 pub mod Refuted
 pub mod RefusalsRefuted
+pub mod ReportsRefuted
 pub mod EmptyRefuted

@@ -34,7 +34,8 @@ use Rattle.hub.specs.Hub.{withPorts, withTranslator, configuredAs, resetHub, ti
 use Rattle.hub.specs.Call.{Call, Control, Poll, Start, Complete, Launch, Deliver, Event as Line, Tick, BusReset, Outcome, plainAnswer, done, refuse, gives}
 use Rattle.hub.specs.Requests.{byRequest, servedAlways, requested}
 use Rattle.hub.specs.Rules.{polled, completedBy, launchedBy}
-use Rattle.hub.specs.Step.{within, roomy, heard, fitting, served, firstRefusal, step}
+use Rattle.hub.specs.Step.{within, served, step}
+use Rattle.hub.proofs.Order.{by-checks}
 use Rattle.runs.specs.History.{History, Asks, nothing, starts, completes, clears, empties, keyOf, requestAsks, asks}
 use Rattle.runs.proofs.Histories.{Refused}
 use Rattle.runs.proofs.Kept.{Tied, Kept, refused-kept, nothing-kept, start-kept, complete-kept, launch-said, deliver-kept, clear-said, empty-said}
@@ -192,13 +193,9 @@ module _ (h : History) (hub : Hub) (tied : Tied h (hub .translator)) where
   serve BusReset w = empty-said h (hub .translator) tied BusReset refl
 
   pub step-kept : (c : Call) → KeptBy c (step hub c)
-  unfolding step
-  step-kept c = go (within hub c) refl (roomy c) (heard hub c) (fitting hub c)
-    where
-      go : (w : Bool) → within hub c ≡ w → (r s f : Bool)
-          → KeptBy c (cond (eqb (firstRefusal w r s f) 0) (served hub c) (refuse (firstRefusal w r s f) hub))
-      go false e r s f = refusal c 6 (record { not-0 = refl; not-1 = refl; not-9 = refl })
-      go true e false s f = refusal c 7 (record { not-0 = refl; not-1 = refl; not-9 = refl })
-      go true e true false f = refusal c 5 (record { not-0 = refl; not-1 = refl; not-9 = refl })
-      go true e true true false = refusal c 8 (record { not-0 = refl; not-1 = refl; not-9 = refl })
-      go true e true true true = serve c e
+  step-kept c =
+      by-checks hub c (KeptBy c) (refusal c 6 (record { not-0 = refl; not-1 = refl; not-9 = refl }))
+      (refusal c 7 (record { not-0 = refl; not-1 = refl; not-9 = refl }))
+      (refusal c 5 (record { not-0 = refl; not-1 = refl; not-9 = refl }))
+      (refusal c 8 (record { not-0 = refl; not-1 = refl; not-9 = refl }))
+      (λ w f. serve c w)

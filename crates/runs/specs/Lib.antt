@@ -3,7 +3,9 @@ pub mod Order
 pub mod Machine
 pub mod Demand2
 pub mod Demand3
+pub mod ErrorReports
 pub mod Refusals
 pub mod Mistakes
 pub mod RefusalMistakes
+pub mod ReportMistakes
 pub mod EmptyPrograms

@@ -7,6 +7,8 @@ ghost use Rattle.runs.specs.Demand2.{Reached};
 ghost use Rattle.runs.specs.EmptyPrograms.{EmptyProgramsShutOut};
 ghost use Rattle.runs.specs.Demand3.{Demand3};
 ghost use Rattle.runs.specs.Order.{LaunchOrder};
+ghost use Rattle.runs.specs.ErrorReports.{ErrorReports};
+ghost use Rattle.runs.specs.ReportMistakes.{ReportMistakesShutOut};
 ghost use Rattle.runs.specs.Mistakes.{MistakesShutOut};
 
 // Which calls are refused, with which number.
@@ -34,6 +36,16 @@ fn demand_3()
 
 fn launch_order()
     ensures { λ _. ⌜ LaunchOrder rules ⌝ }
+{}
+
+// The host sees C_PORT_ENABLE exactly where a port error stands reported.
+fn error_reports()
+    ensures { λ _. ⌜ ErrorReports rules ⌝ }
+{}
+
+// Rules with one mistake in what sets it break that.
+fn report_mistakes_shut_out()
+    ensures { λ _. ⌜ ReportMistakesShutOut ⌝ }
 {}
 
 // Rules with one mistake in the translator break demand 3 or the order.

@@ -1,9 +1,9 @@
--- Bench cases P11 to P13 of document 01, and three more, for a new translator with two buffers.
+-- Three cases beside those of the bench table (crate hub, specs/Cases), for a new translator with two buffers.
 -- A reader must believe: each row has the calls of its case, and what document 01 answers to each.
 use Prim.Native.Nat.{ℕ}
 use mathlib.Core.Path.{_≡_}
 use mathlib.Core.Bool.{Bool, true, false, _&&_}
-use mathlib.Core.List.{List, [], _∷_, _++_}
+use mathlib.Core.List.{List, [], _∷_}
 use lib.Dec.{eqb}
 use lib.ListN.{replicate}
 use Rattle.payload.specs.Payload.{content}
@@ -90,30 +90,6 @@ data1 l = record { number = 1; pid = 11; address = 0; endpoint = 0; bytes = l }
 abbrev pub launchedIn : ℕ → ℕ → Said
 launchedIn a e = record { number = 1; pid = 9; address = a; endpoint = e; bytes = [] }
 
--- P11 IN starts to (5,1), (6,1): ACK both; (7,1): 3. Complete (5,1): 4.
-abbrev pub p11 : Row
-p11 =
-    record {
-      calls = start pid.In 5 1 [] ∷ start pid.In 6 1 [] ∷ start pid.In 7 1 [] ∷ complete 5 1 ∷ [];
-      answers = plain 0 ∷ plain 0 ∷ plain 3 ∷ plain 4 ∷ [];
-    }
-
--- P12 launch, deliver DATA0 `11 22 33`, complete (5,1) twice: the same 3 bytes.
-abbrev pub p12 : Row
-p12 =
-    record {
-      calls = p11 .calls ++ (launch ∷ deliver Data0 (0x11 ∷ 0x22 ∷ 0x33 ∷ []) ∷ complete 5 1 ∷ complete 5 1 ∷ []);
-      answers = p11 .answers ++ (launchedIn 5 1 ∷ plain 0 ∷ data0 (0x11 ∷ 0x22 ∷ 0x33 ∷ []) ∷ data0 (0x11 ∷ 0x22 ∷ 0x33 ∷ []) ∷ []);
-    }
-
--- P13 start (7,1): ACK; complete (5,1): 2.
-abbrev pub p13 : Row
-p13 =
-    record {
-      calls = p12 .calls ++ (start pid.In 7 1 [] ∷ complete 5 1 ∷ []);
-      answers = p12 .answers ++ (plain 0 ∷ plain 2 ∷ []);
-    }
-
 -- Payload 64 passes, 65 is 6: stored, launched, and given back.
 abbrev pub payload64 : Row
 payload64 =
@@ -149,7 +125,7 @@ lateResult =
     }
 
 abbrev pub table : List Row
-table = p11 ∷ p12 ∷ p13 ∷ payload64 ∷ shortAfterLong ∷ lateResult ∷ []
+table = payload64 ∷ shortAfterLong ∷ lateResult ∷ []
 
 abbrev pub sameBytes : List ℕ → List ℕ → Bool
 sameBytes [] [] = true

@@ -633,7 +633,7 @@ fn translator_claims()
     ensures { λ _. ⌜ TranslatorClaims ⌝ }
 {}
 
-// P11 to P13.
+// A payload of 64 bytes, a short result after a long one, a late result.
 fn translator_cases()
     ensures { λ _. ⌜ CasesHold ⌝ }
 {}

@@ -16,6 +16,9 @@ pub const MISTAKES: &[(&str, Mistaken)] = &[
     ("late result given to a refilled buffer", Mistaken(late_result)),
     ("reset timer restarted by a second PORT_RESET", Mistaken(timer_restarted)),
     ("change bits dropped when power goes off", Mistaken(changes_dropped)),
+    ("C_PORT_ENABLE set by a detach", Mistaken(detach_reported)),
+    ("C_PORT_ENABLE set by an over-current in Resuming", Mistaken(over_current_reported)),
+    ("C_PORT_ENABLE not set by a port error", Mistaken(error_unreported)),
     ("reply space checked before the numbers", Mistaken(space_first)),
     ("a refused call changes the area", Mistaken(refusal_changes)),
     ("a reply byte behind the data written", Mistaken(reply_overwritten)),
@@ -106,6 +109,50 @@ fn changes_dropped(call: &Call, lent: &mut Lent) -> RawAnswer {
         port[3] &= 0x20;
     }
     answer
+}
+
+/// Makes the call.  If it was this event and is done, at a port in one of these
+/// states, the port's mark byte is made anew from those before and after it.
+fn after_event(
+    call: &Call,
+    lent: &mut Lent,
+    number: u32,
+    states: &[u8],
+    marked: fn(u8, u8) -> u8,
+) -> RawAnswer {
+    let port = match *call {
+        Call::LineEvent { event, port } if event == number && port > 0 => {
+            form::length(port as usize - 1, 0)
+        }
+        _ => return Linked.call(call, lent),
+    };
+    let before = lent.area.bytes().get(port..port + form::PORT).map(<[u8]>::to_vec);
+    let answer = Linked.call(call, lent);
+    if let Some(before) = before.filter(|before| states.contains(&before[0])) {
+        if answer.number == answer::DONE {
+            let marks = &mut lent.area.bytes_mut()[port + 3];
+            *marks = marked(before[3], *marks);
+        }
+    }
+    answer
+}
+
+/// C_PORT_ENABLE in a port's mark byte.
+const ENABLE: u8 = 1 << 1;
+
+/// Detach is 2; Enabled is 5, Suspended 6.
+fn detach_reported(call: &Call, lent: &mut Lent) -> RawAnswer {
+    after_event(call, lent, 2, &[5, 6], |_, marks| marks | ENABLE)
+}
+
+/// Over-current on is 6; Resuming is 7.
+fn over_current_reported(call: &Call, lent: &mut Lent) -> RawAnswer {
+    after_event(call, lent, 6, &[7], |_, marks| marks | ENABLE)
+}
+
+/// A port error is 5; Enabled is 5.
+fn error_unreported(call: &Call, lent: &mut Lent) -> RawAnswer {
+    after_event(call, lent, 5, &[5], |before, marks| marks & (before | !ENABLE))
 }
 
 fn space_first(call: &Call, lent: &mut Lent) -> RawAnswer {

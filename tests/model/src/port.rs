@@ -163,14 +163,16 @@ impl Port {
 
     /// A permitted event.
     pub fn happen(&mut self, event: Event) {
-        let before = self.state;
-        match (event, before) {
+        match (event, self.state) {
             (Event::AttachLow, _) => self.connect(Disabled(Speed::Low)),
             (Event::AttachFull, _) => self.connect(Disabled(Speed::Full)),
             (Event::Detach, _) => self.connect(Disconnected),
             (Event::Chirp, Resetting(_, ticks)) => self.state = Resetting(Speed::High, ticks),
             (Event::Wake, Suspended(speed)) => self.state = Resuming(speed, 0),
-            (Event::PortError, Enabled(speed)) => self.state = Disabled(speed),
+            (Event::PortError, Enabled(speed)) => {
+                self.state = Disabled(speed);
+                self.mark(Change::Enable);
+            }
             (Event::OverCurrentOn, _) => {
                 if !self.over_current {
                     self.over_current = true;
@@ -185,9 +187,6 @@ impl Port {
                 }
             }
             (event, state) => unreachable!("{event:?} in {state:?}"),
-        }
-        if before.reads_enable() && !self.state.reads_enable() {
-            self.mark(Change::Enable);
         }
     }
 

@@ -3,7 +3,7 @@
 use crate::answer;
 use crate::coverage::{request, Step};
 use crate::hub::{Call, Hub};
-use crate::port::{ClearFeature, Event, Port, SetFeature, Speed, State};
+use crate::port::{Change, ClearFeature, Event, Port, SetFeature, Speed, State};
 use crate::request::Request;
 use crate::translator::{Buffer, Direction, Key, LowSide, Outcome, Token, Translator};
 
@@ -39,9 +39,25 @@ pub const SITUATIONS: &[(&str, Met)] = &[
         clear_on(step, ClearFeature::Power)
             .is_some_and(|port| has_change(port) && port.state != State::PoweredOff)
     }),
-    ("detach ends PORT_ENABLE", |step| ends_enable(step, Event::Detach)),
-    ("port error ends PORT_ENABLE", |step| ends_enable(step, Event::PortError)),
-    ("over-current ends PORT_ENABLE", |step| ends_enable(step, Event::OverCurrentOn)),
+    ("detach in Enabled, C_PORT_ENABLE 0", |step| {
+        event_in(step, Event::Detach, false, |state| matches!(state, State::Enabled(_)))
+    }),
+    ("detach in Suspended, C_PORT_ENABLE 0", |step| {
+        event_in(step, Event::Detach, false, |state| matches!(state, State::Suspended(_)))
+    }),
+    ("over-current in Enabled, C_PORT_ENABLE 0", |step| {
+        event_in(step, Event::OverCurrentOn, false, |state| matches!(state, State::Enabled(_)))
+    }),
+    ("over-current in Suspended, C_PORT_ENABLE 0", |step| {
+        event_in(step, Event::OverCurrentOn, false, |state| matches!(state, State::Suspended(_)))
+    }),
+    ("over-current in Resuming, C_PORT_ENABLE 0", |step| {
+        event_in(step, Event::OverCurrentOn, false, |state| matches!(state, State::Resuming(..)))
+    }),
+    ("port error, C_PORT_ENABLE 0", |step| event_in(step, Event::PortError, false, |_| true)),
+    ("port error, C_PORT_ENABLE 1", |step| event_in(step, Event::PortError, true, |_| true)),
+    ("detach, C_PORT_ENABLE 1", |step| event_in(step, Event::Detach, true, |_| true)),
+    ("over-current, C_PORT_ENABLE 1", |step| event_in(step, Event::OverCurrentOn, true, |_| true)),
     ("over-current ends a reset", |step| {
         event(step).is_some_and(|(event, port)| {
             event == Event::OverCurrentOn && matches!(port.state, State::Resetting(..))
@@ -250,9 +266,13 @@ fn names_port(step: &Step, met: fn(usize, usize) -> bool) -> bool {
             .is_some_and(|port| met(port.into(), step.before.ports.len()))
 }
 
-fn ends_enable(step: &Step, ending: Event) -> bool {
+/// The event took place in such a state, where C_PORT_ENABLE read this before.
+fn event_in(step: &Step, wanted: Event, enable_change: bool, met: fn(State) -> bool) -> bool {
     event(step).is_some_and(|(event, port)| {
-        event == ending && port.state.reads_enable() && !port.over_current
+        event == wanted
+            && met(port.state)
+            && port.changed(Change::Enable) == enable_change
+            && !port.over_current
     })
 }
 

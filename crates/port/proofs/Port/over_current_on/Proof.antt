@@ -3,7 +3,7 @@ use mathlib.Core.List.{[], _∷_}
 use mathlib.Core.Path.{_∙_}
 use Rattle.port.specs.Events.{overCurrentOn}
 use Rattle.port.specs.Reaction.{done}
-use Rattle.port.specs.declared.ChangeBit.the-variants.{OverCurrent, Enable}
+use Rattle.port.specs.declared.ChangeBit.the-variants.{OverCurrent}
 use Rattle.port.specs.declared.PortState.the-variants.{PoweredOff}
 use mathlib.Core.Bool.{true}
 use borrow.Author.Needs.{needs}
@@ -22,12 +22,6 @@ done-requires c κs = search needs
 done-requires-2 : tie.Need-done-requires-2
 done-requires-2 c κs = search needs
 
-done-requires-3 : tie.Need-done-requires-3
-done-requires-3 c κs = search needs
-
-done-requires-4 : tie.Need-done-requires-4
-done-requires-4 c κs = search needs
-
 returns : tie.Need-returns
 returns c = c .refused .ensures ∙ rw (c .before .enum-told .given .1)
 
@@ -35,38 +29,15 @@ returns-2 : tie.Need-returns-2
 returns-2 c =
     let p = c .before .before .before .before .args .self in
     c .done .ensures
-    ∙ serves p overCurrentOn (λ s. done s (p .overcurrent) []) (5 ∷ 6 ∷ 7 ∷ []) (c .before .before .match .keys2) (λ v t. rw (c .before .if1 .taken))
+    ∙ serves p overCurrentOn (λ s. done s (p .overcurrent) []) (1 ∷ 2 ∷ 3 ∷ 4 ∷ 5 ∷ 6 ∷ 7 ∷ []) (c .before .before .match .keys2) (λ v t. rw (c .before .if1 .taken))
 
 returns-3 : tie.Need-returns-3
 returns-3 c =
     let p = c .before .before .before .before .args .self in
     c .done2 .ensures
-    ∙ serves p overCurrentOn (λ s. done PoweredOff true (OverCurrent ∷ Enable ∷ [])) (5 ∷ 6 ∷ 7 ∷ []) (c .before .before .match .keys2) (λ v t. rw (c .before .if1 .left))
-
-returns-4 : tie.Need-returns-4
-returns-4 c =
-    let p = c .before .before .before .before .args .self in
-    c .done3 .ensures
-    ∙ serves p overCurrentOn (λ s. done s (p .overcurrent) []) (1 ∷ 2 ∷ 3 ∷ 4 ∷ []) (c .before .before .match .keys3) (λ v t. rw (c .before .if2 .taken))
-
-returns-5 : tie.Need-returns-5
-returns-5 c =
-    let p = c .before .before .before .before .args .self in
-    c .done4 .ensures
-    ∙ serves p overCurrentOn (λ s. done PoweredOff true (OverCurrent ∷ [])) (1 ∷ 2 ∷ 3 ∷ 4 ∷ []) (c .before .before .match .keys3) (λ v t. rw (c .before .if2 .left))
+    ∙ serves p overCurrentOn (λ s. done PoweredOff true (OverCurrent ∷ [])) (1 ∷ 2 ∷ 3 ∷ 4 ∷ 5 ∷ 6 ∷ 7 ∷ []) (c .before .before .match .keys2) (λ v t. rw (c .before .if1 .left))
 
 pub over-current-on-spec : {M : Type 1} → statement M
 over-current-on-spec =
     tie.close
-    (tie.spec
-    enum-told
-    refused-requires
-    done-requires
-    done-requires-2
-    done-requires-3
-    done-requires-4
-    returns
-    returns-2
-    returns-3
-    returns-4
-    returns-5)
+    (tie.spec enum-told refused-requires done-requires done-requires-2 returns returns-2 returns-3)
