@@ -403,9 +403,10 @@ grimholdi_answer grimholdi_deliver(uint8_t *area, size_t area_len,
  *                  C_PORT_OVER_CURRENT; no effect if it is off
  *   port         1 to the hub's number of ports
  *
- * C_PORT_ENABLE reports a port error and nothing else: no other event, no
- * request, tick or configuration sets it, also where it ends PORT_ENABLE.
- * Change bits stay until they are cleared by ClearPortFeature or a bus reset.
+ * C_PORT_ENABLE reports a port error and nothing else (USB 2.0,
+ * 11.24.2.7.2.2): no other event, no request, tick or configuration sets it,
+ * also where it ends PORT_ENABLE.  Change bits stay until ClearPortFeature or
+ * a bus reset clears them.
  *
  * OUTSIDE  the area is refused, or a number is outside the rules
  * NOT_NOW  the hub is unconfigured, or the port is in another state

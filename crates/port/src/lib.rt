@@ -357,7 +357,7 @@ impl Port {
         }
     }
 
-    // Alone sets C_PORT_ENABLE (USB 2.0, 11.24.2.7.2.2).
+    // The only event that sets C_PORT_ENABLE (USB 2.0, 11.24.2.7.2.2).
     fn port_error(self) -> Stepped
         ensures { λ r. ⌜ answered r ≡ ruled portError self ⌝ }
     {
