@@ -100,6 +100,16 @@ module _ (h : Hub) where
       go Occupied q e = ap (λ (t : Translator). plain (withTranslator h t) 8) (next Occupied q refl)
       go (Launches s) q e = absurd (false≢true e)
 
+  -- a line event that its checks let pass is done
+  pub event-done : (e n : ℕ) → fitting h (Event e n) ≡ true → lineEvent (portAt (h .ports) (record { 0 = n })) (eventFrom e) .number ≡ 0
+  unfolding fitting
+  event-done e n f =
+      let p = portAt (h .ports) (record { 0 = n }) in
+      let k = lineEvent p (eventFrom e) .number in
+      ⊎-elim (λ (z : k ≡ 0). z)
+      (λ (z : k ≡ 8). absurd (true≢false (ap (λ (x : ℕ). eqb x 8) (sym z) ∙ not-true (eqb k 8) (right (h .configured) (not (eqb k 8)) f))))
+      (port-claims .event-answers p (eventFrom e))
+
   served-same : (c : Call) → within h c ≡ true → fitting h c ≡ true → Same h (served h c)
   unfolding fitting served
   served-same (Control s room) w f r = requested-same (requestOf (h .identity .ports) s) r
@@ -112,12 +122,7 @@ module _ (h : Hub) where
   served-same (Deliver r b) w f e =
       let o = deliver (h .translator) (resultFrom r) b in
       ap (λ (x : Translator). deliveredAs h (record { next = x; answer = o .answer })) (calls.refused-same .delivered (h .translator) (resultFrom r) b e)
-  served-same (Event e n) w f r =
-      let p = portAt (h .ports) (record { 0 = n }) in
-      let k = lineEvent p (eventFrom e) .number in
-      absurd (⊎-elim (λ (z : k ≡ 0). false≢true (ap isRefusal (sym z) ∙ r))
-      (λ (z : k ≡ 8). true≢false (ap (λ (x : ℕ). eqb x 8) (sym z) ∙ not-true (eqb k 8) (right (h .configured) (not (eqb k 8)) f)))
-      (port-claims .event-answers p (eventFrom e)))
+  served-same (Event e n) w f r = absurd (false≢true (ap isRefusal (sym (event-done e n f)) ∙ r))
   served-same Tick w f e = absurd (false≢true e)
   served-same BusReset w f e = absurd (false≢true e)
 

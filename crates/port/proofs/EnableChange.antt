@@ -6,6 +6,7 @@ use mathlib.Core.Bool.{Bool, true, false, cond, not, true≢false}
 use mathlib.Core.List.{[], _∷_}
 use mathlib.Core.Logic.{_↔_}
 use lib.Dec.{ltb}
+use borrow.Author.Tests.{not-true}
 use Rattle.port.specs.declared.Speed.{Speed}
 use Rattle.port.specs.declared.Speed.the-variants.{Low, Full, High}
 use Rattle.port.specs.declared.PortState.{PortState}
@@ -114,11 +115,8 @@ keeps busReset = false
 at-port : (rule : Bool → PortState → Reaction) → Quiet rule → (p : Port) → ruled rule p .port .changes .enable ≡ p .changes .enable
 at-port rule q p = bit-after p (rule (p .overcurrent) (p .state)) ∙ q (p .changes) (p .overcurrent) (p .state)
 
-not-error : (e : LineEvent) → not (isError e) ≡ true → isError e ≡ false
-not-error e k = by-bool (λ b. not b ≡ true → b ≡ false) (λ h. sym h) (λ h. refl) (isError e) k
-
 pub enable-kept : (p : Port) (i : Input) → keeps i ≡ true → after p i .changes .enable ≡ p .changes .enable
-enable-kept p (event e) k = at-port (eventRule e) (event-quiet e (not-error e k)) p
+enable-kept p (event e) k = at-port (eventRule e) (event-quiet e (not-true (isError e) k)) p
 enable-kept p tick k = at-port ticking.tick tick-quiet p
 enable-kept p (setFeature f) k = at-port (setRule f) (set-quiet f) p
 enable-kept p (clearFeature clearable.Enable) k = at-port clearEnable enable-quiet p

@@ -12,7 +12,7 @@ use Rattle.port.specs.Status.{portEnable, portReset}
 use Rattle.port.specs.Input.{Input, event, tick, setFeature, clearFeature, configure, unconfigure, busReset, after}
 use Rattle.port.specs.Claims.{EnableChange}
 
--- the kinds of input that can end PORT_ENABLE, and the rest
+-- the kinds of input that can end PORT_ENABLE (`reset` is a bus reset), and the rest
 pub data Ending : Type 0 where
   none : Ending
   detach : Ending

@@ -63,14 +63,16 @@ use Rattle.hub.specs.Hub.{withPorts, withTranslator, configuredAs, resetHub, ti
 use Rattle.hub.specs.Call.{Call, Control, Poll, Start, Complete, Launch, Deliver, Event as Line′, Tick, BusReset, Answer, Outcome, plainAnswer, done, refuse, gives}
 use Rattle.hub.specs.Requests.{byRequest, servedAlways, requested}
 use Rattle.hub.specs.Rules.{polled, completedBy, launchAnswer, launchedBy}
-use Rattle.hub.specs.Step.{within, roomy, heard, fitting, served, firstRefusal, step}
+use Rattle.hub.specs.Step.{within, served, step}
+use Rattle.hub.proofs.Order.{by-checks}
+use Rattle.hub.proofs.Valid.{completed-next, launched-next}
 use Rattle.runs.specs.History.{Event, History, Asks, nothing, starts, completes, launches, delivers, clears, empties, asks, isOpen, stores, lastStored, For, lastFor, isAt, isFor}
 use Rattle.runs.specs.Order.{pendingAfter, isPendingAt, Ordered, AllOrdered, LaunchOrder}
 use Rattle.runs.specs.Machine.{newHubOf, rules, runFrom}
 use Rattle.runs.proofs.Histories.{one-key, Refused, silent-refused, silent-nothing, complete-stores, keeps-repeat, keeps-launch, keeps-deliver}
 use Rattle.runs.proofs.Invariant.{Good, LowOk, RunsFor, held-ranked, free-ranked, inv-ranked}
 use Rattle.runs.proofs.Kept.{ev, Tied}
-use Rattle.runs.proofs.Steps.{start-key, complete-key, AsksFor, request-asks, completed-next, launched-next, step-kept}
+use Rattle.runs.proofs.Steps.{start-key, complete-key, AsksFor, request-asks, step-kept}
 use Rattle.runs.proofs.Line.{splitIn, placeIn, keyIn, Waits, waits-holds, waits-placed, callOf, Stands, Known, Line, line-ranked, line-quiet, line-left, line-gone, line-into, line-empty, ranked-below}
 use Rattle.runs.proofs.Theorems.{new-tied}
 
@@ -430,16 +432,9 @@ module _ (h : History) (hub : Hub) (tied : Tied h (hub .translator)) (line : Lin
   serve BusReset w = empty-line h (hub .translator) tied line BusReset refl
 
   pub step-line : (c : Call) → LineBy c (step hub c)
-  unfolding step
-  step-line c = go (within hub c) refl (roomy c) (heard hub c) (fitting hub c)
-    where
-      go : (w : Bool) → within hub c ≡ w → (r s f : Bool)
-          → LineBy c (cond (eqb (firstRefusal w r s f) 0) (served hub c) (refuse (firstRefusal w r s f) hub))
-      go false e r s f = refusal c 6 (none-of 6 refl refl refl) refl
-      go true e false s f = refusal c 7 (none-of 7 refl refl refl) refl
-      go true e true false f = refusal c 5 (none-of 5 refl refl refl) refl
-      go true e true true false = refusal c 8 (none-of 8 refl refl refl) refl
-      go true e true true true = serve c e
+  step-line c =
+      by-checks hub c (LineBy c) (refusal c 6 (none-of 6 refl refl refl) refl) (refusal c 7 (none-of 7 refl refl refl) refl)
+      (refusal c 5 (none-of 5 refl refl refl) refl) (refusal c 8 (none-of 8 refl refl refl) refl) (λ w f. serve c w)
 
 -- ---- whole runs
 

@@ -3,8 +3,7 @@ use Prim.Native.Nat.{ℕ, _≤_}
 use native.Mathlib.Omega.{arith}
 use mathlib.Core.Path.{_≡_, refl, sym, _∙_, ap, subst}
 use mathlib.Core.List.{List, [], _∷_}
-use mathlib.Core.Bool.{Bool, true, false, cond, not, _&&_, _||_, true≢false}
-use mathlib.Core.Logic.{⊎-elim}
+use mathlib.Core.Bool.{Bool, true, false, cond, not, _&&_, _||_}
 use borrow.Author.Tests.{eqb-true, eqb-false}
 use lib.Dec.{eqb}
 use lib.ListN.{getD}
@@ -23,7 +22,6 @@ use Rattle.port.specs.Input.{Input, event, tick, setFeature, clearFeature, afte
 use Rattle.port.proofs.States.{by-state}
 use Rattle.port.proofs.Bits.{bits-back}
 use Rattle.port.proofs.EnableChange.{isError, keeps, enable-kept}
-use Rattle.port.proofs.Claimed.{port-claims}
 use Rattle.ports.specs.declared.Sweep.{Sweep}
 use Rattle.ports.specs.declared.Sweep.the-variants as sweep
 use Rattle.ports.specs.Ports.{portAt, withPort}
@@ -57,15 +55,15 @@ use Rattle.hub.specs.Requests.{byRequest, servedAlways, requested}
 use Rattle.hub.specs.Rules.{polled}
 use Rattle.hub.specs.Step.{within, fitting, served, step}
 use Rattle.hub.specs.Valid.{ValidHub}
-use Rattle.hub.proofs.Numbers.{left, right, fits}
+use Rattle.hub.proofs.Numbers.{left, fits}
 use Rattle.hub.proofs.Order.{by-checks}
-use Rattle.hub.proofs.Valid.{new-valid, step-valid}
+use Rattle.hub.proofs.Valid.{completed-next, launched-next, new-valid, step-valid}
+use Rattle.hub.proofs.Refused.{event-done}
 use Rattle.hub.proofs.Claimed.{hub-claims}
 use Rattle.runs.specs.History.{History}
 use Rattle.runs.specs.Machine.{newHubOf, rules, runFrom}
 use Rattle.runs.specs.ErrorReports.{PortAsks, nothing, errs, clears, clearsAll, reads, requestAsks, portAsks, reportedAfter, isReported, enableShown, Shows, AllShow, ErrorReports}
 use Rattle.runs.proofs.Kept.{ev}
-use Rattle.runs.proofs.Steps.{completed-next, launched-next}
 
 -- ---- one port
 
@@ -307,16 +305,6 @@ module _ (h : Hub) (v : ValidHub h) (m : PortNumber) (among : Among (h .identity
         | false ↦ refl
       ]
 
-  zero-answered : (e n : ℕ) → fitting h (Line e n) ≡ true → lineEvent (portAt (h .ports) (record { 0 = n })) (eventFrom e) .number ≡ 0
-  unfolding fitting
-  zero-answered e n f =
-      let p = portAt (h .ports) (record { 0 = n }) in
-      let d = right (h .configured) (not (eqb (lineEvent p (eventFrom e) .number) 8)) f in
-      ⊎-elim (λ z. z) (λ z. absurd (eight (lineEvent p (eventFrom e) .number) z d)) (port-claims .event-answers p (eventFrom e))
-    where
-      eight : (k : ℕ) → k ≡ 8 → not (eqb k 8) ≡ true → ⊥
-      eight k z d = true≢false (sym (rw z at d))
-
   serve : (c : Call) → within h c ≡ true → fitting h c ≡ true → Says (portAsks c) (served h c)
   unfolding served within portAsks resetHub reportedAfter
   serve (Control s room) w f = control s room
@@ -329,7 +317,7 @@ module _ (h : Hub) (v : ValidHub h) (m : PortNumber) (among : Among (h .identity
       let o = launch (h .translator) in
       ap (λ (k : Hub). reportOf k m) (launched-next (withTranslator h (o .next)) (o .answer) (o .payload))
   serve (Deliver r b) w f = refl
-  serve (Line e n) w f = line e n (left (isEvent e) (portNamed (h .identity .ports) n) w) (zero-answered e n f)
+  serve (Line e n) w f = line e n (left (isEvent e) (portNamed (h .identity .ports) n) w) (event-done h e n f)
   serve Tick w f = ticks
   serve BusReset w f = ap (λ (p : Port). p .changes .enable) (ports-claims .new-at m)
 

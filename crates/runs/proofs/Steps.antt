@@ -9,14 +9,9 @@ use lib.Dec.{eqb, ltb}
 use lib.ListN.{length}
 use Rattle.buffer.specs.Key as key
 use Rattle.buffer.specs.Lengths.{startFits, resultLength}
-use Rattle.payload.specs.declared.Payload.{Payload}
 use Rattle.ports.specs.declared.Sweep.the-variants.{Tick as Tick′}
 use Rattle.ports.specs.Sweep.{swept}
 use Rattle.ports.specs.Bitmap.{bitmapOf}
-use Rattle.translator.specs.declared.CompleteAnswer.{CompleteAnswer}
-use Rattle.translator.specs.declared.CompleteAnswer.the-variants.{NoMatch, NotYet, Gives}
-use Rattle.translator.specs.declared.LaunchAnswer.{LaunchAnswer}
-use Rattle.translator.specs.declared.LaunchAnswer.the-variants.{NothingPending, Occupied, Launches}
 use Rattle.translator.specs.CompleteSplit.{completeSplit}
 use Rattle.translator.specs.Launch.{launch}
 use Rattle.numbers.specs.Named.{pidFrom, isPid, isType, isFlag, isResult, resultFrom, isDirection, directionFrom}
@@ -36,6 +31,7 @@ use Rattle.hub.specs.Requests.{byRequest, servedAlways, requested}
 use Rattle.hub.specs.Rules.{polled, completedBy, launchedBy}
 use Rattle.hub.specs.Step.{within, served, step}
 use Rattle.hub.proofs.Order.{by-checks}
+use Rattle.hub.proofs.Valid.{completed-next, launched-next}
 use Rattle.runs.specs.History.{History, Asks, nothing, starts, completes, clears, empties, keyOf, requestAsks, asks}
 use Rattle.runs.proofs.Histories.{Refused}
 use Rattle.runs.proofs.Kept.{Tied, Kept, refused-kept, nothing-kept, start-kept, complete-kept, launch-said, deliver-kept, clear-said, empty-said}
@@ -110,17 +106,6 @@ request-asks n s room =
     go false b c d = tt
 
 -- ---- one call
-
--- the hub of an outcome doesn't depend on the answer
-pub completed-next : (h : Hub) (a : CompleteAnswer) (p : Payload) → completedBy h a p .next ≡ h
-completed-next h NoMatch p = refl
-completed-next h NotYet p = refl
-completed-next h (Gives r) p = refl
-
-pub launched-next : (h : Hub) (a : LaunchAnswer) (p : Payload) → launchedBy h a p .next ≡ h
-launched-next h NothingPending p = refl
-launched-next h Occupied p = refl
-launched-next h (Launches s) p = refl
 
 module _ (h : History) (hub : Hub) (tied : Tied h (hub .translator)) where
   abbrev KeptBy : Call → Outcome → Type 0
