@@ -1,9 +1,12 @@
 /*
- * A firmware loop around the hub.  Two microphones send their takes by bulk
- * transfer, one 64-byte packet after the other, interleaved; one of them is
- * unplugged while a packet of it is on its way.  Host, front end and
- * microphones are simulated here.  At the end each take must have arrived
- * whole, or up to the unplugging, under its own address.
+ * A firmware loop around the hub, for two recording computers.  Each reads the
+ * take of its own microphone by bulk transfer, one 64-byte packet after the
+ * other, through its own lane.  Both have given their microphone the same
+ * address.  One computer asks for more buffers than a lane may hold.  The
+ * microphone of the other is unplugged, and that computer resets its lane of
+ * the translator while a packet of the first is on its way.  Computers, front
+ * end and microphones are simulated here.  At the end each take must have
+ * arrived whole, or up to the unplugging, in its own lane.
  */
 
 #include "grimholdi.h"
@@ -13,63 +16,99 @@
 
 enum {
     PORTS = 4,
-    BUFFERS = 2,
-    MICROPHONES = 2,
-    ENDPOINT = 1,
-    TAKE_MAX = 1024,
-    UNPLUGGED = 1,      /* the microphone that is unplugged .. */
-    UNPLUG_AFTER = 5,   /* .. after that many packets */
-    NAK_EVERY = 4,      /* a microphone is not ready at every fourth IN */
-    TIME_LIMIT = 100    /* ms */
+    BUFFERS = 3,         /* a lane may hold two */
+    COMPUTERS = 2,
+    ADDRESS = 5,         /* of both microphones */
+    TAKE = 1,            /* endpoints: the take, .. */
+    BUTTONS = 2,         /* .. the buttons, of which none is pressed, .. */
+    METER = 3,           /* .. and the level meter */
+    TAKE_LENGTH = 300,
+    UNPLUGGED = 1,       /* the computer whose microphone is unplugged .. */
+    UNPLUG_AFTER = 128,  /* .. after that many bytes */
+    NAK_EVERY = 4,       /* a microphone is not ready at every fourth IN */
+    FIRST_READ = GRIMHOLDI_RESET_TICKS + 1, /* ms */
+    TIME_LIMIT = 100
 };
 
 typedef struct {
-    /* The device. */
-    uint8_t port;
-    uint8_t address;
-    uint8_t take[TAKE_MAX];
-    size_t take_length;
-    size_t sent;
-    unsigned asked;        /* INs seen */
-    unsigned packets;
-    uint8_t next_data;     /* DATA0 or DATA1 */
-    int plugged;
-
-    /* The host's side. */
-    uint8_t received[TAKE_MAX];
+    uint8_t lane;
+    uint8_t received[TAKE_LENGTH];
     size_t received_length;
-    uint8_t expected_data;
+    uint8_t expected_data; /* DATA0 or DATA1 */
     int reading;
 
-    /* One row of the table. */
-    char launched[16];
-    char delivered[16];
-} microphone;
+    /* Its microphone. */
+    uint8_t port;
+    uint8_t take[TAKE_LENGTH];
+    size_t sent;
+    unsigned asked;        /* INs seen */
+    uint8_t next_data;
+    int plugged;
+} computer;
 
 static uint8_t area[GRIMHOLDI_AREA_LENGTH_MAX];
 static size_t area_len;
 static uint8_t reply[GRIMHOLDI_REPLY_LENGTH];
-static microphone microphones[MICROPHONES];
+static computer computers[COMPUTERS];
 static unsigned now; /* ms */
 static int failed;
 
 static void expect(int holds, const char *what)
 {
     if (!holds) {
-        printf("%4u  UNEXPECTED: %s\n", now, what);
+        printf("%4u UNEXPECTED: %s\n", now, what);
         failed = 1;
     }
 }
 
-static void note(const char *what, unsigned port)
+/* The log: a time and a letter in each line, see main. */
+
+static const char *const answer_names[] = {
+    "DONE", "DATA", "STALL", "NAK", "NYET", "SILENT", "OUTSIDE", "NO_SPACE",
+    "NOT_NOW", "HANDSHAKE"
+};
+
+static const char *const result_names[] = {
+    [GRIMHOLDI_RESULT_FAILURE] = "failure",
+    [GRIMHOLDI_RESULT_ACK] = "ACK",
+    [GRIMHOLDI_RESULT_DATA0] = "DATA0",
+    [GRIMHOLDI_RESULT_NAK] = "NAK",
+    [GRIMHOLDI_RESULT_DATA1] = "DATA1",
+    [GRIMHOLDI_RESULT_STALL] = "STALL"
+};
+
+static void print_key(char letter, unsigned lane, unsigned endpoint)
 {
-    printf("%4u %5u  %s\n", now, port, what);
+    printf("%4u %c Bi:%u:%03u:%u", now, letter, lane, ADDRESS, endpoint);
+}
+
+/* The first eight bytes. */
+static void print_bytes(const uint8_t *bytes, size_t length)
+{
+    size_t i;
+
+    printf(" %u =", (unsigned)length);
+    for (i = 0; i < length && i < 8; i++)
+        printf(" %02x", bytes[i]);
+    printf("%s", length > 8 ? " .." : "");
+}
+
+static void print_answer(grimholdi_answer answer)
+{
+    if (answer.number != GRIMHOLDI_DATA)
+        printf(" %s", answer_names[answer.number]);
+    if (answer.pid != 0)
+        printf(" %s", result_names[answer.pid]);
+    if (answer.number == GRIMHOLDI_DATA)
+        print_bytes(reply, answer.length);
 }
 
 /* Calls of the hub with the firmware's own area and reply space. */
 
-static grimholdi_answer request(uint8_t type, uint8_t code, uint16_t value,
-                                uint16_t index, uint16_t length)
+/* Requests here are done, or give data if they ask for any. */
+static void request(const computer *from, const char *name, uint8_t type,
+                    uint8_t code, uint16_t value, uint16_t index,
+                    uint16_t length)
 {
     const uint8_t setup[GRIMHOLDI_SETUP_LENGTH] = {
         type, code,
@@ -77,29 +116,30 @@ static grimholdi_answer request(uint8_t type, uint8_t code, uint16_t value,
         (uint8_t)index, (uint8_t)(index >> 8),
         (uint8_t)length, (uint8_t)(length >> 8)
     };
+    grimholdi_answer answer = grimholdi_control(area, area_len, from->lane,
+                                                setup, sizeof setup,
+                                                reply, sizeof reply);
 
-    return grimholdi_control(area, area_len, setup, sizeof setup,
-                             reply, sizeof reply);
+    printf("%4u R C%c:%u s %02x %02x %04x %04x %04x", now,
+           type & 0x80 ? 'i' : 'o', from->lane, type, code, value, index,
+           length);
+    print_answer(answer);
+    printf("  %s\n", name);
+    expect(answer.number == (length > 0 ? GRIMHOLDI_DATA : GRIMHOLDI_DONE)
+           && answer.length == length, name);
 }
 
-static void set_feature(uint16_t feature, uint8_t port)
+static void set_feature(const computer *from, uint16_t feature)
 {
-    expect(request(GRIMHOLDI_TYPE_SET_PORT, GRIMHOLDI_REQUEST_SET_FEATURE,
-                   feature, port, 0).number == GRIMHOLDI_DONE,
-           "SetPortFeature");
+    request(from, "SetPortFeature", GRIMHOLDI_TYPE_SET_PORT,
+            GRIMHOLDI_REQUEST_SET_FEATURE, feature, from->port, 0);
 }
 
-static void clear_feature(uint16_t feature, uint8_t port)
+static void line_event(uint32_t event, uint8_t port, const char *name)
 {
-    expect(request(GRIMHOLDI_TYPE_SET_PORT, GRIMHOLDI_REQUEST_CLEAR_FEATURE,
-                   feature, port, 0).number == GRIMHOLDI_DONE,
-           "ClearPortFeature");
-}
-
-static void line_event(uint32_t event, uint8_t port)
-{
+    printf("%4u E port %u %s\n", now, port, name);
     expect(grimholdi_line_event(area, area_len, event, port).number
-           == GRIMHOLDI_DONE, "line event");
+           == GRIMHOLDI_DONE, name);
 }
 
 static void tick(void)
@@ -108,23 +148,73 @@ static void tick(void)
     expect(grimholdi_tick(area, area_len).number == GRIMHOLDI_DONE, "tick");
 }
 
-/* The microphones. */
-
-static void make_take(microphone *mic, uint8_t port, uint8_t address,
-                      size_t length)
+static void start_split(const computer *from, uint8_t endpoint,
+                        uint8_t expected, const char *remark)
 {
-    size_t i;
+    grimholdi_answer answer = grimholdi_start_split(
+        area, area_len, from->lane, GRIMHOLDI_PID_IN, GRIMHOLDI_TRANSFER_BULK,
+        0, 0, ADDRESS, endpoint, NULL, 0);
 
-    memset(mic, 0, sizeof *mic);
-    mic->port = port;
-    mic->address = address;
-    mic->take_length = length;
-    for (i = 0; i < length; i++)
-        mic->take[i] = (uint8_t)(i * (address + 2u) + address + (i >> 8));
-    mic->next_data = GRIMHOLDI_RESULT_DATA0;
-    mic->expected_data = GRIMHOLDI_RESULT_DATA0;
-    mic->plugged = 1;
-    mic->reading = 1;
+    print_key('S', from->lane, endpoint);
+    print_answer(answer);
+    printf("%s\n", remark);
+    expect(answer.number == expected, "start-split");
+}
+
+static grimholdi_answer complete_split(const computer *from, uint8_t endpoint)
+{
+    grimholdi_answer answer = grimholdi_complete_split(
+        area, area_len, from->lane, ADDRESS, endpoint, GRIMHOLDI_DIRECTION_IN,
+        reply, sizeof reply);
+
+    print_key('C', from->lane, endpoint);
+    print_answer(answer);
+    printf("\n");
+    return answer;
+}
+
+/* The computers. */
+
+/* The microphone is gone: all buffers of this lane are given back. */
+static void give_up(computer *of)
+{
+    of->reading = 0;
+    request(of, "ResetTT", GRIMHOLDI_TYPE_SET_PORT,
+            GRIMHOLDI_REQUEST_RESET_TT, 0, 1, 0);
+}
+
+/*
+ * Both computers see both ports; each serves its own.  A driver takes
+ * C_PORT_ENABLE for a report of babble: no port error happens here, so that an
+ * unplugged microphone shows C_PORT_CONNECTION alone.
+ */
+static void serve_changes(computer *of)
+{
+    grimholdi_answer answer = grimholdi_poll(area, area_len, of->lane,
+                                             reply, sizeof reply);
+    uint8_t status, changes, bit;
+
+    if (answer.number != GRIMHOLDI_DATA) {
+        expect(answer.number == GRIMHOLDI_NAK, "poll");
+        return;
+    }
+    if (!(reply[0] >> of->port & 1))
+        return;
+    printf("%4u P Ii:%u", now, of->lane);
+    print_answer(answer);
+    printf("\n");
+    request(of, "GetPortStatus", GRIMHOLDI_TYPE_GET_PORT,
+            GRIMHOLDI_REQUEST_GET_STATUS, 0, of->port, 4);
+    status = reply[0];
+    changes = reply[2];
+    expect(!(changes & GRIMHOLDI_CHANGE_ENABLE), "C_PORT_ENABLE");
+    for (bit = 0; bit < 5; bit++)
+        if (changes >> bit & 1)
+            request(of, "ClearPortFeature", GRIMHOLDI_TYPE_SET_PORT,
+                    GRIMHOLDI_REQUEST_CLEAR_FEATURE,
+                    GRIMHOLDI_C_PORT_CONNECTION + bit, of->port, 0);
+    if (!(status & GRIMHOLDI_STATUS_CONNECTION))
+        give_up(of);
 }
 
 static uint8_t other_data(uint8_t data)
@@ -133,192 +223,134 @@ static uint8_t other_data(uint8_t data)
                                           : GRIMHOLDI_RESULT_DATA0;
 }
 
-static microphone *with_address(uint8_t address)
+/* The take and the buttons are all that a lane may hold of three buffers. */
+static void start_reading(const computer *of)
 {
-    int i;
-
-    for (i = 0; i < MICROPHONES; i++)
-        if (microphones[i].address == address)
-            return &microphones[i];
-    return NULL;
+    start_split(of, TAKE, GRIMHOLDI_DONE, "");
+    if (now == FIRST_READ && of == &computers[0]) {
+        start_split(of, BUTTONS, GRIMHOLDI_DONE, "");
+        start_split(of, METER, GRIMHOLDI_NAK, "  the limit");
+    }
 }
 
-/* What the microphone replies to an IN; the front end delivers it. */
-static void answer_in(microphone *mic)
+static void stop_reading(computer *of)
 {
-    size_t length = mic->take_length - mic->sent;
-    grimholdi_answer answer;
+    const uint16_t key = (uint16_t)(
+        TAKE << GRIMHOLDI_TT_ENDPOINT_SHIFT
+        | ADDRESS << GRIMHOLDI_TT_ADDRESS_SHIFT
+        | GRIMHOLDI_TRANSFER_BULK << GRIMHOLDI_TT_TRANSFER_SHIFT
+        | GRIMHOLDI_DIRECTION_IN << GRIMHOLDI_TT_DIRECTION_SHIFT);
+
+    of->reading = 0;
+    request(of, "ClearTTBuffer", GRIMHOLDI_TYPE_SET_PORT,
+            GRIMHOLDI_REQUEST_CLEAR_TT_BUFFER, key, 1, 0);
+}
+
+static void receive(computer *of, grimholdi_answer answer)
+{
+    expect(answer.pid == of->expected_data, "data toggle");
+    if (answer.length > TAKE_LENGTH - of->received_length) {
+        expect(0, "more bytes than any take has");
+        stop_reading(of);
+        return;
+    }
+    memcpy(of->received + of->received_length, reply, answer.length);
+    of->received_length += answer.length;
+    of->expected_data = other_data(of->expected_data);
+    if (answer.length < GRIMHOLDI_PAYLOAD_MAX)
+        stop_reading(of);
+}
+
+static void finish_reading(computer *of)
+{
+    grimholdi_answer answer = complete_split(of, TAKE);
+
+    if (!of->plugged)
+        expect(answer.number == GRIMHOLDI_STALL, "result after ResetTT");
+    else if (answer.number == GRIMHOLDI_DATA)
+        receive(of, answer);
+    else
+        expect(answer.number == GRIMHOLDI_HANDSHAKE
+               && answer.pid == GRIMHOLDI_RESULT_NAK, "complete-split");
+}
+
+/* The microphones and the front end. */
+
+static void deliver(const computer *to, uint8_t endpoint, uint8_t result,
+                    const uint8_t *bytes, size_t length)
+{
+    print_key('D', to->lane, endpoint);
+    printf(" %s", result_names[result]);
+    if (bytes != NULL)
+        print_bytes(bytes, length);
+    printf("\n");
+    expect(grimholdi_deliver(area, area_len, result, bytes, length).number
+           == GRIMHOLDI_DONE, "deliver");
+}
+
+/* What the microphone replies to an IN. */
+static void answer_in(computer *of, uint8_t endpoint)
+{
+    size_t length = TAKE_LENGTH - of->sent;
 
     if (length > GRIMHOLDI_PAYLOAD_MAX)
         length = GRIMHOLDI_PAYLOAD_MAX;
-    if (!mic->plugged) {
-        answer = grimholdi_deliver(area, area_len, GRIMHOLDI_RESULT_FAILURE,
-                                   NULL, 0);
-        strcpy(mic->delivered, "failure");
-    } else if (++mic->asked % NAK_EVERY == 0) {
-        answer = grimholdi_deliver(area, area_len, GRIMHOLDI_RESULT_NAK,
-                                   NULL, 0);
-        strcpy(mic->delivered, "NAK");
-    } else {
-        answer = grimholdi_deliver(area, area_len, mic->next_data,
-                                   mic->take + mic->sent, length);
-        sprintf(mic->delivered, "DATA%d %u",
-                mic->next_data == GRIMHOLDI_RESULT_DATA1, (unsigned)length);
-        mic->sent += length;
-        mic->packets++;
-        mic->next_data = other_data(mic->next_data);
+    if (endpoint != TAKE || ++of->asked % NAK_EVERY == 0) {
+        deliver(of, endpoint, GRIMHOLDI_RESULT_NAK, NULL, 0);
+        return;
     }
-    expect(answer.number == GRIMHOLDI_DONE, "deliver");
+    deliver(of, endpoint, of->next_data, of->take + of->sent, length);
+    of->sent += length;
+    of->next_data = other_data(of->next_data);
 }
 
-static void unplug(microphone *mic)
+/* At the first packet of the other computer after so many bytes. */
+static void unplug_in_time(uint8_t running_lane)
 {
-    mic->plugged = 0;
-    line_event(GRIMHOLDI_EVENT_DETACH, mic->port);
-    note("unplugged", mic->port);
+    computer *of = &computers[UNPLUGGED];
+
+    if (of->plugged && of->sent == UNPLUG_AFTER && running_lane != of->lane) {
+        of->plugged = 0;
+        line_event(GRIMHOLDI_EVENT_DETACH, of->port, "unplugged");
+    }
 }
 
-/* The front end: runs what the translator launches. */
+/* Runs what the translator launches; the computers poll meanwhile. */
 static void run_low_side(void)
 {
     for (;;) {
         grimholdi_answer launched = grimholdi_launch(area, area_len,
                                                      reply, sizeof reply);
-        microphone *mic;
+        int i;
 
-        if (launched.number != GRIMHOLDI_DATA) {
+        if (launched.number != GRIMHOLDI_DATA || launched.lane >= COMPUTERS) {
             expect(launched.number == GRIMHOLDI_NAK, "launch");
             return;
         }
-        mic = with_address(launched.address);
-        expect(mic != NULL && launched.pid == GRIMHOLDI_PID_IN
-               && launched.endpoint == ENDPOINT && launched.length == 0,
-               "launched transaction");
-        if (mic == NULL)
-            return;
-        sprintf(mic->launched, "IN %u.%u", launched.address,
-                launched.endpoint);
-        if (mic == &microphones[UNPLUGGED] && mic->plugged
-            && mic->packets == UNPLUG_AFTER)
-            unplug(mic);
-        answer_in(mic);
+        print_key('L', launched.lane, launched.endpoint);
+        printf("\n");
+        expect(launched.pid == GRIMHOLDI_PID_IN && launched.length == 0
+               && launched.address == ADDRESS, "launched transaction");
+        unplug_in_time(launched.lane);
+        for (i = 0; i < COMPUTERS; i++)
+            serve_changes(&computers[i]);
+        expect(computers[launched.lane].plugged, "launch after ResetTT");
+        answer_in(&computers[launched.lane], launched.endpoint);
     }
 }
 
-/* The host. */
-
-static void attach(const microphone *mic)
+static void make_computer(computer *of, uint8_t lane, uint8_t port)
 {
-    line_event(GRIMHOLDI_EVENT_ATTACH_FULL, mic->port);
-    note("attached, full speed", mic->port);
-    clear_feature(GRIMHOLDI_C_PORT_CONNECTION, mic->port);
-    set_feature(GRIMHOLDI_PORT_RESET, mic->port);
-}
+    size_t i;
 
-static void print_status(uint8_t port, const uint8_t status[4])
-{
-    static const char *const changes[] = {
-        "C_PORT_CONNECTION", "C_PORT_ENABLE", "C_PORT_SUSPEND",
-        "C_PORT_OVER_CURRENT", "C_PORT_RESET"
-    };
-    int bit;
-
-    printf("%4u %5u  status %02X %02X %02X %02X", now, port,
-           status[0], status[1], status[2], status[3]);
-    for (bit = 0; bit < 5; bit++)
-        if (status[2] >> bit & 1)
-            printf("  %s", changes[bit]);
-    printf("\n");
-}
-
-/* Reads the bitmap and the status of each port in it; clears the changes.  A
- * driver takes C_PORT_ENABLE for a report of babble: no port error happens
- * here, so that an unplugged microphone shows C_PORT_CONNECTION alone. */
-static void serve_changes(void)
-{
-    uint8_t bitmap;
-    uint8_t port;
-
-    if (grimholdi_poll(area, area_len, reply, sizeof reply).number
-        != GRIMHOLDI_DATA)
-        return;
-    bitmap = reply[0];
-    for (port = 1; port <= PORTS; port++) {
-        uint8_t changes;
-        uint8_t bit;
-
-        if (!(bitmap >> port & 1))
-            continue;
-        expect(request(GRIMHOLDI_TYPE_GET_PORT, GRIMHOLDI_REQUEST_GET_STATUS,
-                       0, port, 4).number == GRIMHOLDI_DATA, "GetPortStatus");
-        print_status(port, reply);
-        changes = reply[2];
-        expect(!(changes & GRIMHOLDI_CHANGE_ENABLE), "C_PORT_ENABLE");
-        for (bit = 0; bit < 5; bit++)
-            if (changes >> bit & 1)
-                clear_feature(GRIMHOLDI_C_PORT_CONNECTION + bit, port);
-    }
-}
-
-static void start_reading(const microphone *mic)
-{
-    expect(grimholdi_start_split(area, area_len, GRIMHOLDI_PID_IN,
-                                 GRIMHOLDI_TRANSFER_BULK, 0, 0, mic->address,
-                                 ENDPOINT, NULL, 0).number == GRIMHOLDI_DONE,
-           "start-split");
-}
-
-static void stop_reading(microphone *mic)
-{
-    uint16_t key = (uint16_t)(
-        ENDPOINT << GRIMHOLDI_TT_ENDPOINT_SHIFT
-        | mic->address << GRIMHOLDI_TT_ADDRESS_SHIFT
-        | GRIMHOLDI_TRANSFER_BULK << GRIMHOLDI_TT_TRANSFER_SHIFT
-        | GRIMHOLDI_DIRECTION_IN << GRIMHOLDI_TT_DIRECTION_SHIFT);
-
-    mic->reading = 0;
-    expect(request(GRIMHOLDI_TYPE_SET_PORT, GRIMHOLDI_REQUEST_CLEAR_TT_BUFFER,
-                   key, 1, 0).number == GRIMHOLDI_DONE, "ClearTTBuffer");
-}
-
-static void row(const microphone *mic, const char *completed)
-{
-    printf("%4u %5u  %7u  %-8s  %-9s  %-12s  %6u\n", now, mic->port,
-           mic->address, mic->launched, mic->delivered, completed,
-           (unsigned)mic->received_length);
-}
-
-static void finish_reading(microphone *mic)
-{
-    grimholdi_answer answer = grimholdi_complete_split(
-        area, area_len, mic->address, ENDPOINT, GRIMHOLDI_DIRECTION_IN,
-        reply, sizeof reply);
-    char completed[16];
-
-    if (answer.number == GRIMHOLDI_DATA) {
-        expect(answer.pid == mic->expected_data, "data toggle");
-        if (answer.length > TAKE_MAX - mic->received_length) {
-            expect(0, "more bytes than any take has");
-            stop_reading(mic);
-            return;
-        }
-        memcpy(mic->received + mic->received_length, reply, answer.length);
-        mic->received_length += answer.length;
-        mic->expected_data = other_data(mic->expected_data);
-        sprintf(completed, "DATA%d %u", answer.pid == GRIMHOLDI_RESULT_DATA1,
-                answer.length);
-        row(mic, completed);
-        if (answer.length < GRIMHOLDI_PAYLOAD_MAX)
-            stop_reading(mic);
-    } else if (answer.number == GRIMHOLDI_HANDSHAKE
-               && answer.pid == GRIMHOLDI_RESULT_NAK) {
-        row(mic, "NAK");
-    } else {
-        expect(answer.number == GRIMHOLDI_HANDSHAKE
-               && answer.pid == GRIMHOLDI_RESULT_STALL, "complete-split");
-        row(mic, "STALL");
-        stop_reading(mic);
-    }
+    of->lane = lane;
+    of->expected_data = GRIMHOLDI_RESULT_DATA0;
+    of->reading = 1;
+    of->port = port;
+    for (i = 0; i < TAKE_LENGTH; i++)
+        of->take[i] = (uint8_t)(i * (2u * port + 5) + 16u * port + (i >> 8));
+    of->next_data = GRIMHOLDI_RESULT_DATA0;
+    of->plugged = 1;
 }
 
 static void set_up(void)
@@ -328,49 +360,44 @@ static void set_up(void)
     area_len = grimholdi_area_length(PORTS, BUFFERS);
     expect(grimholdi_new(area, area_len, PORTS, BUFFERS, 50, 100, 0).number
            == GRIMHOLDI_DONE, "new hub");
-    expect(request(GRIMHOLDI_TYPE_SET_CONFIGURATION,
-                   GRIMHOLDI_REQUEST_SET_CONFIGURATION, 1, 0, 0).number
-           == GRIMHOLDI_DONE, "SetConfiguration");
-    make_take(&microphones[0], 1, 5, 500);
-    make_take(&microphones[1], 2, 6, 700);
-    for (i = 0; i < MICROPHONES; i++) {
-        set_feature(GRIMHOLDI_PORT_POWER, microphones[i].port);
-        attach(&microphones[i]);
+    make_computer(&computers[0], 0, 1);
+    make_computer(&computers[1], 1, 2);
+    request(&computers[0], "SetConfiguration",
+            GRIMHOLDI_TYPE_SET_CONFIGURATION,
+            GRIMHOLDI_REQUEST_SET_CONFIGURATION, 1, 0, 0);
+    for (i = 0; i < COMPUTERS; i++) {
+        set_feature(&computers[i], GRIMHOLDI_PORT_POWER);
+        line_event(GRIMHOLDI_EVENT_ATTACH_FULL, computers[i].port,
+                   "attached, full speed");
+        serve_changes(&computers[i]);
+        set_feature(&computers[i], GRIMHOLDI_PORT_RESET);
     }
     for (i = 0; i < GRIMHOLDI_RESET_TICKS; i++)
         tick();
-    serve_changes();
-}
-
-static int still_reading(void)
-{
-    int i;
-
-    for (i = 0; i < MICROPHONES; i++)
-        if (microphones[i].reading)
-            return 1;
-    return 0;
+    for (i = 0; i < COMPUTERS; i++)
+        serve_changes(&computers[i]);
 }
 
 static void read_takes(void)
 {
-    int reading[MICROPHONES];
-    int i;
+    while ((computers[0].reading || computers[1].reading)
+           && now < TIME_LIMIT) {
+        int reading[COMPUTERS];
+        int i;
 
-    printf("\n  ms  port  address  launched  delivered  complete-split"
-           "   bytes\n");
-    while (still_reading() && now < TIME_LIMIT) {
         tick();
-        for (i = 0; i < MICROPHONES; i++) {
-            reading[i] = microphones[i].reading;
+        for (i = 0; i < COMPUTERS; i++) {
+            reading[i] = computers[i].reading;
             if (reading[i])
-                start_reading(&microphones[i]);
+                start_reading(&computers[i]);
         }
         run_low_side();
-        for (i = 0; i < MICROPHONES; i++)
+        if (now == FIRST_READ)
+            expect(complete_split(&computers[0], BUTTONS).pid
+                   == GRIMHOLDI_RESULT_NAK, "buttons");
+        for (i = 0; i < COMPUTERS; i++)
             if (reading[i])
-                finish_reading(&microphones[i]);
-        serve_changes();
+                finish_reading(&computers[i]);
     }
 }
 
@@ -379,17 +406,15 @@ static void check_takes(void)
     int i;
 
     printf("\n");
-    for (i = 0; i < MICROPHONES; i++) {
-        const microphone *mic = &microphones[i];
-        size_t due = i == UNPLUGGED
-                     ? (size_t)UNPLUG_AFTER * GRIMHOLDI_PAYLOAD_MAX
-                     : mic->take_length;
-        int whole = mic->sent == due && mic->received_length == due
-                    && memcmp(mic->received, mic->take, due) == 0;
+    for (i = 0; i < COMPUTERS; i++) {
+        const computer *of = &computers[i];
+        size_t due = i == UNPLUGGED ? UNPLUG_AFTER : TAKE_LENGTH;
+        int whole = of->sent == due && of->received_length == due
+                    && memcmp(of->received, of->take, due) == 0;
 
-        printf("address %u: %u of %u bytes, %s, %s\n", mic->address,
-               (unsigned)mic->received_length, (unsigned)mic->take_length,
-               mic->plugged ? "take complete" : "unplugged",
+        printf("lane %u, address %u: %u of %u bytes, %s, %s\n", of->lane,
+               ADDRESS, (unsigned)of->received_length, TAKE_LENGTH,
+               of->plugged ? "take complete" : "unplugged",
                whole ? "as sent" : "NOT AS SENT");
         expect(whole, "take");
     }
@@ -397,7 +422,9 @@ static void check_takes(void)
 
 int main(void)
 {
-    printf("  ms  port\n");
+    printf("  ms R request, P poll: lane; E line event; S start-split,\n"
+           "     L launch, D deliver, C complete-split: "
+           "lane:address:endpoint\n\n");
     set_up();
     read_takes();
     check_takes();

@@ -1,10 +1,10 @@
 /*
  * grimholdi.h - a USB 2.0 hub controller and transaction translator
  *
- * The hub has 1 to 7 downstream ports and one translator with 2 to 4 buffers
- * for bulk and control split transactions.  The firmware hands over finished
- * events, setup packets and payloads as numbers and bytes.  Each call returns
- * one answer.
+ * The hub has two upstream lanes, 1 to 7 downstream ports and one translator
+ * with 2 to 4 buffers for bulk and control split transactions.  The firmware
+ * hands over finished events, setup packets and payloads as numbers and bytes.
+ * Each call returns one answer.
  *
  * The area
  *
@@ -19,12 +19,28 @@
  *   hub, is refused with GRIMHOLDI_OUTSIDE.  What the calls themselves leave
  *   is always taken.
  *
+ * The lanes
+ *
+ *   Two computers use the hub, each through a lane of its own, 0 or 1.
+ *   Control requests, polls and both splits name the lane they come from.
+ *   Both lanes act on the one set of ports and take from the same buffers.
+ *   The lane is part of a key: the same address, endpoint and direction in
+ *   both lanes are two keys, with a transaction and a result each.
+ *
+ *   A lane may hold all buffers but one pending or ready, and no more; old
+ *   ones do not count.  A lane that holds none always finds one.
+ *
+ *   A lane may see of the other: NAK because the other holds the buffers,
+ *   STALL because the other took an old one, the other's port requests in the
+ *   status and the bitmap, and its SetConfiguration, which acts on both.  It
+ *   never sees a payload byte of the other.
+ *
  * The order of checks
  *
  *   Where several answers apply, the first of this list is given:
  *
  *     1. GRIMHOLDI_OUTSIDE    the area, a number or a length is outside the
- *                             rules
+ *                             rules; a lane above 1 is such a number
  *     2. GRIMHOLDI_NO_SPACE   the call takes reply space and reply_len is
  *                             below GRIMHOLDI_REPLY_LENGTH, even if the call
  *                             would write nothing
@@ -68,6 +84,7 @@ extern "C" {
 #define GRIMHOLDI_PORTS_MAX         7
 #define GRIMHOLDI_BUFFERS_MIN       2
 #define GRIMHOLDI_BUFFERS_MAX       4
+#define GRIMHOLDI_LANE_MAX          1   /* lanes are numbered from 0 */
 #define GRIMHOLDI_ADDRESS_MAX       127
 #define GRIMHOLDI_ENDPOINT_MAX      15
 #define GRIMHOLDI_PAYLOAD_MAX       64
@@ -113,7 +130,7 @@ extern "C" {
 #define GRIMHOLDI_TRANSFER_CONTROL  0
 #define GRIMHOLDI_TRANSFER_BULK     2
 
-/* Directions.  A key is an address, an endpoint and a direction. */
+/* Directions.  A key is a lane, an address, an endpoint and a direction. */
 
 #define GRIMHOLDI_DIRECTION_OUT     0   /* PIDs OUT and SETUP */
 #define GRIMHOLDI_DIRECTION_IN      1   /* PID IN */
@@ -201,6 +218,7 @@ typedef struct {
     uint8_t pid;       /* complete-split: a result (not the failure);
                           launch: a PID */
     uint8_t transfer;  /* this and the following: launch only */
+    uint8_t lane;      /* 0 or 1 */
     uint8_t address;
     uint8_t endpoint;
     uint8_t direction;
@@ -238,7 +256,11 @@ grimholdi_answer grimholdi_new(uint8_t *area, size_t area_len,
 /*
  * A control request to the hub, as its eight setup bytes.
  *
- * OUTSIDE   the area is refused, or setup_len is not 8
+ *   lane        0 or 1, where the request comes from.  Only ClearTTBuffer and
+ *               ResetTT act on one lane.
+ *
+ * OUTSIDE   the area is refused, lane is above 1, or setup_len is not 8,
+ *           whatever the setup bytes say
  * NO_SPACE  reply_len is below 64
  * STALL     not one of the requests below with exactly these fields, all other
  *           fields zero, or not served while the hub is unconfigured
@@ -246,11 +268,12 @@ grimholdi_answer grimholdi_new(uint8_t *area, size_t area_len,
  * DONE      any other request
  *
  *   SetConfiguration   00 09  wValue 0 or 1; served while unconfigured.
- *                             Empties the translator, stops the low side and
- *                             keeps the change bits.  0: every port goes to
- *                             Not Configured and over-current levels are
- *                             dropped.  1: every port goes to Powered-off and
- *                             over-current levels stay.
+ *                             Empties the buffers of both lanes, stops the
+ *                             low side at once and keeps the change bits.
+ *                             0: every port goes to Not Configured and
+ *                             over-current levels are dropped.  1: every port
+ *                             goes to Powered-off and over-current levels
+ *                             stay.
  *   GetConfiguration   80 08  wLength 1; served while unconfigured.  One byte.
  *   GetHubDescriptor   A0 06  wValue 2900h, any wLength; served while
  *                             unconfigured.  Nine bytes cut to wLength:
@@ -274,35 +297,45 @@ grimholdi_answer grimholdi_new(uint8_t *area, size_t area_len,
  *                             Disconnected, unless over-current holds.
  *   ClearTTBuffer      23 08  wIndex 1; wValue: endpoint bits 0 to 3, address
  *                             4 to 10, transfer type 11 to 12, direction 15,
- *                             others zero.  Empties the buffer of that key,
- *                             whatever its type.  If that transaction is
- *                             running, the low side stays occupied until the
- *                             next delivery, which is thrown away.
- *   ResetTT            23 09  wIndex 1.  Empties the translator and stops the
- *                             low side.
+ *                             others zero.  Empties the buffer of that key in
+ *                             the caller's lane, whatever its type.  If that
+ *                             transaction is running, the low side stays
+ *                             occupied until the next delivery, which is
+ *                             thrown away.
+ *   ResetTT            23 09  wIndex 1.  Empties all buffers of the caller's
+ *                             lane, old ones too.  If one of them is running,
+ *                             the low side stays occupied as after
+ *                             ClearTTBuffer; if it is occupied so already, it
+ *                             stays occupied.  The other lane's buffers and
+ *                             its running transaction stay as they are.
  *
  * A port feature request that does not apply in the port's state is DONE with
  * no effect.
  */
 grimholdi_answer grimholdi_control(uint8_t *area, size_t area_len,
+                                   uint32_t lane,
                                    const uint8_t *setup, size_t setup_len,
                                    uint8_t *reply, size_t reply_len);
 
 /*
- * The status change bitmap.
+ * The status change bitmap, the same for both lanes.
  *
- * OUTSIDE   the area is refused
+ *   lane        0 or 1
+ *
+ * OUTSIDE   the area is refused, or lane is above 1
  * NO_SPACE  reply_len is below 64
  * SILENT    the hub is unconfigured
  * NAK       no port has a change bit set
  * DATA      one byte; bit p is 1 if port p has a change bit set, bit 0 is 0
  */
 grimholdi_answer grimholdi_poll(uint8_t *area, size_t area_len,
+                                uint32_t lane,
                                 uint8_t *reply, size_t reply_len);
 
 /*
  * Offers a transaction to the translator.
  *
+ *   lane         0 or 1
  *   pid          OUT, IN or SETUP
  *   transfer     control or bulk; SETUP is control
  *   low_speed    0 or 1
@@ -314,13 +347,17 @@ grimholdi_answer grimholdi_poll(uint8_t *area, size_t area_len,
  * OUTSIDE  the area is refused, or a number or the payload's length is outside
  *          the rules
  * SILENT   the hub is unconfigured
+ * DONE     a pending or ready buffer has this key: this is a repeat, and
+ *          nothing is stored, whatever its PID, type or payload
+ * NAK      the limit: the lane holds all buffers but one pending or ready,
+ *          even if the last one is free, or is old and has this key
  * NAK      no buffer has this key, and none is empty or old
- * DONE     A pending or ready buffer has this key: this is a repeat, and
- *          nothing is stored, whatever its PID, type or payload.  Otherwise
- *          the transaction is stored and pending: in the old buffer with this
- *          key if there is one, else in the lowest-numbered empty or old one.
+ * DONE     the transaction is stored and pending: in the old buffer with this
+ *          key if there is one, else in the lowest-numbered empty or old one,
+ *          whichever lane an old one belonged to
  */
 grimholdi_answer grimholdi_start_split(uint8_t *area, size_t area_len,
+                                       uint32_t lane,
                                        uint32_t pid, uint32_t transfer,
                                        uint32_t low_speed, uint32_t toggle,
                                        uint32_t address, uint32_t endpoint,
@@ -330,6 +367,7 @@ grimholdi_answer grimholdi_start_split(uint8_t *area, size_t area_len,
 /*
  * Asks for the result of the transaction with this key.
  *
+ *   lane         0 or 1
  *   address      0 to 127
  *   endpoint     0 to 15
  *   direction    OUT or IN
@@ -344,9 +382,10 @@ grimholdi_answer grimholdi_start_split(uint8_t *area, size_t area_len,
  *            buffer is old
  *
  * An old buffer gives its result again until it is used for another
- * transaction or emptied.
+ * transaction, of either lane, or emptied.
  */
 grimholdi_answer grimholdi_complete_split(uint8_t *area, size_t area_len,
+                                          uint32_t lane,
                                           uint32_t address, uint32_t endpoint,
                                           uint32_t direction,
                                           uint8_t *reply, size_t reply_len);
@@ -359,9 +398,9 @@ grimholdi_answer grimholdi_complete_split(uint8_t *area, size_t area_len,
  * SILENT    the hub is unconfigured
  * NOT_NOW   the low side is occupied
  * NAK       no transaction is pending
- * DATA      the pending transaction stored earliest: its payload as data, its
- *           PID, type, key, low-speed flag and toggle in the answer.  It
- *           occupies the low side and stays pending.
+ * DATA      the pending transaction stored earliest, of both lanes: its
+ *           payload as data, its PID, type, key, low-speed flag and toggle in
+ *           the answer.  It occupies the low side and stays pending.
  */
 grimholdi_answer grimholdi_launch(uint8_t *area, size_t area_len,
                                   uint8_t *reply, size_t reply_len);
@@ -379,8 +418,8 @@ grimholdi_answer grimholdi_launch(uint8_t *area, size_t area_len,
  *          transaction's PID.  IN: DATA0, DATA1, NAK, STALL, FAILURE.
  *          OUT: ACK, NAK, STALL, FAILURE.  SETUP: ACK, FAILURE.
  * DONE     the transaction's buffer is ready and the low side is free.  If the
- *          running transaction was cleared by ClearTTBuffer, the result is
- *          thrown away, whatever it is, and the low side is free.
+ *          running transaction was emptied by ClearTTBuffer or ResetTT, the
+ *          result is thrown away, whatever it is, and the low side is free.
  */
 grimholdi_answer grimholdi_deliver(uint8_t *area, size_t area_len,
                                    uint32_t result,
@@ -426,8 +465,8 @@ grimholdi_answer grimholdi_line_event(uint8_t *area, size_t area_len,
 grimholdi_answer grimholdi_tick(uint8_t *area, size_t area_len);
 
 /*
- * A reset on the upstream bus.  The area holds the new hub again, with the
- * numbers given to grimholdi_new.
+ * A reset on the upstream bus, for both lanes.  The area holds the new hub
+ * again, with the numbers given to grimholdi_new.
  *
  * OUTSIDE  the area is refused
  * DONE     otherwise

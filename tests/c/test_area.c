@@ -16,25 +16,29 @@ static int all_refuse(uint8_t *bytes, size_t length)
                                      GRIMHOLDI_REQUEST_GET_CONFIGURATION,
                                      0, 0, 0, 0, 1, 0};
     uint8_t kept[GRIMHOLDI_AREA_LENGTH_MAX + 1];
-    grimholdi_answer answers[9];
+    grimholdi_answer answers[13];
+    grimholdi_answer *next = answers;
+    uint32_t lane;
     int i;
 
     if (length > 0)
         memcpy(kept, bytes, length);
-    answers[0] = grimholdi_control(bytes, length, setup, 8, reply, 64);
-    answers[1] = grimholdi_poll(bytes, length, reply, 64);
-    answers[2] = grimholdi_start_split(bytes, length, GRIMHOLDI_PID_IN,
-                                       GRIMHOLDI_TRANSFER_BULK, 0, 0, 9, 1,
-                                       NULL, 0);
-    answers[3] = grimholdi_complete_split(bytes, length, 9, 1, 1, reply, 64);
-    answers[4] = grimholdi_launch(bytes, length, NULL, 0);
-    answers[5] = grimholdi_deliver(bytes, length, GRIMHOLDI_RESULT_NAK, NULL,
-                                   0);
-    answers[6] = grimholdi_line_event(bytes, length,
-                                      GRIMHOLDI_EVENT_OVER_CURRENT_ON, 1);
-    answers[7] = grimholdi_tick(bytes, length);
-    answers[8] = grimholdi_bus_reset(bytes, length);
-    for (i = 0; i < 9; i++)
+    for (lane = 0; lane <= GRIMHOLDI_LANE_MAX; lane++) {
+        *next++ = grimholdi_control(bytes, length, lane, setup, 8, reply, 64);
+        *next++ = grimholdi_poll(bytes, length, lane, reply, 64);
+        *next++ = grimholdi_start_split(bytes, length, lane, GRIMHOLDI_PID_IN,
+                                        GRIMHOLDI_TRANSFER_BULK, 0, 0, 9, 1,
+                                        NULL, 0);
+        *next++ = grimholdi_complete_split(bytes, length, lane, 9, 1, 1,
+                                           reply, 64);
+    }
+    *next++ = grimholdi_launch(bytes, length, NULL, 0);
+    *next++ = grimholdi_deliver(bytes, length, GRIMHOLDI_RESULT_NAK, NULL, 0);
+    *next++ = grimholdi_line_event(bytes, length,
+                                   GRIMHOLDI_EVENT_OVER_CURRENT_ON, 1);
+    *next++ = grimholdi_tick(bytes, length);
+    *next = grimholdi_bus_reset(bytes, length);
+    for (i = 0; i < 13; i++)
         if (answers[i].number != GRIMHOLDI_OUTSIDE || !is_bare(answers[i]))
             return 0;
     return length == 0 || memcmp(kept, bytes, length) == 0;
@@ -71,8 +75,9 @@ static int taken_with(size_t place, uint8_t value)
 }
 
 /*
- * 2 ports: Resetting after 3 ticks, Disconnected.  3 buffers: OUT to (5, 1)
- * with "abc" running, IN from (6, 1) ready with "de", IN from (7, 1) pending.
+ * 2 ports: Resetting after 3 ticks, Disconnected.  3 buffers: lane 0's OUT to
+ * (5, 1) with "abc" running; lane 1's IN from (6, 1) ready with "de" and IN
+ * from (7, 1) pending.
  */
 static void sample_hub(void)
 {
@@ -85,7 +90,7 @@ static void sample_hub(void)
     CHECK(set_feature(GRIMHOLDI_PORT_RESET, 1) == GRIMHOLDI_DONE);
     ticks(3);
     CHECK(start_out(4, 1, NULL, 0) == GRIMHOLDI_DONE);
-    CHECK(start_in(6, 1) == GRIMHOLDI_DONE);
+    CHECK(start_in_from(1, 6, 1) == GRIMHOLDI_DONE);
     CHECK(launch().address == 4);
     CHECK(deliver(GRIMHOLDI_RESULT_NAK, NULL, 0) == GRIMHOLDI_DONE);
     CHECK(launch().address == 6);
@@ -94,7 +99,7 @@ static void sample_hub(void)
     CHECK(complete(4, 1, GRIMHOLDI_DIRECTION_OUT).number
           == GRIMHOLDI_HANDSHAKE);
     CHECK(start_out(5, 1, (const uint8_t *)"abc", 3) == GRIMHOLDI_DONE);
-    CHECK(start_in(7, 1) == GRIMHOLDI_DONE);
+    CHECK(start_in_from(1, 7, 1) == GRIMHOLDI_DONE);
     CHECK(launch().address == 5);
 }
 
@@ -106,8 +111,8 @@ static void written_form(void)
         2, 0, 0, 0x00,
         1, 1, 2, 0, 5, 1, 0, 3, 'a', 'b', 'c', 0
     };
-    static const uint8_t ready[] = {2, 9, 2, 0, 6, 1, 11, 2, 'd', 'e', 0};
-    static const uint8_t pending[] = {1, 9, 2, 0, 7, 1, 1, 0, 0};
+    static const uint8_t ready[] = {2, 9, 2, 4, 6, 1, 11, 2, 'd', 'e', 0};
+    static const uint8_t pending[] = {1, 9, 2, 4, 7, 1, 1, 0, 0};
 
     sample_hub();
     CHECK(memcmp(area, head, sizeof head) == 0);
@@ -115,12 +120,40 @@ static void written_form(void)
     CHECK(memcmp(area + BUFFER_2, pending, sizeof pending) == 0);
 }
 
-/* The worked example of docs/AREA.md: bench case P12 before and after the delivery. */
+/* Byte 3 of a buffer: bit 0 low speed, bit 1 toggle, bit 2 lane. */
+static void flags_byte(void)
+{
+    uint32_t flags;
+
+    for (flags = 0; flags < 8; flags++) {
+        uint32_t low_speed = flags & 1;
+        uint32_t toggle = flags >> 1 & 1;
+        uint32_t lane = flags >> 2;
+        grimholdi_answer answer;
+
+        new_hub(2, 3);
+        CHECK(set_configuration(1) == GRIMHOLDI_DONE);
+        CHECK(grimholdi_start_split(area, area_len, lane, GRIMHOLDI_PID_IN,
+                                    GRIMHOLDI_TRANSFER_BULK, low_speed, toggle,
+                                    5, 1, NULL, 0).number == GRIMHOLDI_DONE);
+        CHECK(area[BUFFER_0 + 3] == flags);
+        answer = launch();
+        CHECK(answer.low_speed == low_speed && answer.toggle == toggle
+              && answer.lane == lane);
+        CHECK(deliver(GRIMHOLDI_RESULT_NAK, NULL, 0) == GRIMHOLDI_DONE);
+        CHECK(area[BUFFER_0 + 3] == flags);
+    }
+}
+
+/*
+ * The worked example of docs/AREA.md: bench case P12 before and after the
+ * delivery, with a start-split of lane 1 in the third buffer.
+ */
 static void worked_example(void)
 {
     static const uint8_t taken[] = {0x11, 0x22, 0x33};
-    uint8_t expected[168] = {
-        0x04, 0x02, 0x32, 0x64, 0x00, 0x01, 0x01, 0x00,
+    uint8_t expected[240] = {
+        0x04, 0x03, 0x32, 0x64, 0x00, 0x01, 0x01, 0x00,
         0x01, 0x00, 0x00, 0x00, 0x01, 0x00, 0x00, 0x00,
         0x01, 0x00, 0x00, 0x00, 0x01, 0x00, 0x00, 0x00,
         0x01, 0x09, 0x02, 0x00, 0x05, 0x01, 0x00, 0x00
@@ -129,14 +162,18 @@ static void worked_example(void)
                                     0x03, 0x03, 0x11, 0x22, 0x33};
     static const uint8_t pending[] = {0x01, 0x09, 0x02, 0x00, 0x06, 0x01,
                                       0x01, 0x00};
+    static const uint8_t lane_1[] = {0x01, 0x09, 0x02, 0x04, 0x05, 0x01,
+                                     0x02, 0x00};
 
-    new_hub(4, 2);
+    new_hub(4, 3);
     CHECK(area_len == sizeof expected);
     CHECK(set_configuration(1) == GRIMHOLDI_DONE);
     CHECK(start_in(5, 1) == GRIMHOLDI_DONE);
     CHECK(start_in(6, 1) == GRIMHOLDI_DONE);
+    CHECK(start_in_from(1, 5, 1) == GRIMHOLDI_DONE);
     CHECK(launch().address == 5);
     memcpy(expected + 96, pending, sizeof pending);
+    memcpy(expected + 168, lane_1, sizeof lane_1);
     CHECK(memcmp(area, expected, sizeof expected) == 0);
     CHECK(deliver(GRIMHOLDI_RESULT_DATA0, taken, sizeof taken)
           == GRIMHOLDI_DONE);
@@ -304,6 +341,10 @@ static void refused_buffers(void)
         CHECK(value == 0 || value == 2
               ? taken_with(BUFFER_0 + 2, (uint8_t)value)
               : refused_with(BUFFER_0 + 2, (uint8_t)value));
+
+        /* Low speed, toggle and lane; but lane 1 holds two of three. */
+        CHECK(value <= 7 ? taken_with(BUFFER_2 + 3, (uint8_t)value)
+                         : refused_with(BUFFER_2 + 3, (uint8_t)value));
         CHECK(value <= 3 ? taken_with(BUFFER_0 + 3, (uint8_t)value)
                          : refused_with(BUFFER_0 + 3, (uint8_t)value));
 
@@ -335,9 +376,82 @@ static void refused_buffers(void)
         CHECK(refused_with(BUFFER_0 + (size_t)i, 1));
 
     /* An empty buffer is all zero. */
-    CHECK(clear_tt_buffer(6, 1, GRIMHOLDI_DIRECTION_IN) == GRIMHOLDI_DONE);
+    CHECK(clear_tt_buffer_from(1, 6, 1, GRIMHOLDI_DIRECTION_IN)
+          == GRIMHOLDI_DONE);
+    CHECK(is_taken());
     for (i = 0; i < 72; i++)
         CHECK(refused_with(BUFFER_1 + (size_t)i, 1));
+    CHECK(refused_with(BUFFER_1 + 3, 4));
+}
+
+/* Two buffers with one address, endpoint and direction are in two lanes. */
+static void keys_by_lane(void)
+{
+    sample_hub();
+    area[BUFFER_2 + 4] = 6; /* as buffer 1, in lane 1 */
+    CHECK(taken_with(BUFFER_2 + 3, 0));
+    CHECK(refused_with(BUFFER_2 + 3, 4));
+    CHECK(refused_with(BUFFER_2 + 3, 7));
+
+    /* The lanes exchanged. */
+    area[BUFFER_0 + 3] = 4;
+    area[BUFFER_1 + 3] = 0;
+    CHECK(taken_with(BUFFER_2 + 3, 4));
+    CHECK(refused_with(BUFFER_2 + 3, 0));
+
+    /* An old buffer has a key too. */
+    area[BUFFER_1] = 3;
+    CHECK(taken_with(BUFFER_2 + 3, 4));
+    CHECK(refused_with(BUFFER_2 + 3, 0));
+}
+
+/* A buffer's bytes: bulk IN from an address of its own, without payload. */
+static void put_buffer(uint32_t number, uint8_t status, uint8_t lane)
+{
+    uint8_t *buffer = area + 8 + 4 + 72 * number; /* behind one port */
+
+    memset(buffer, 0, 72);
+    if (status == 0)
+        return;
+    buffer[0] = status;
+    buffer[1] = GRIMHOLDI_PID_IN;
+    buffer[2] = GRIMHOLDI_TRANSFER_BULK;
+    buffer[3] = (uint8_t)(lane << 2);
+    buffer[4] = (uint8_t)(10 + number);
+    buffer[6] = status == 1 ? (uint8_t)number : GRIMHOLDI_RESULT_NAK;
+}
+
+/*
+ * Every choice of status and lane for each buffer: refused exactly if one
+ * lane holds all of them pending or ready.
+ */
+static void crowded_areas(uint32_t buffers)
+{
+    static const uint8_t kinds[][2] = { /* status, lane */
+        {0, 0}, {1, 0}, {2, 0}, {3, 0}, {1, 1}, {2, 1}, {3, 1}
+    };
+    uint32_t choices = 1;
+    uint32_t choice;
+    uint32_t i;
+
+    new_hub(1, buffers);
+    CHECK(set_configuration(1) == GRIMHOLDI_DONE);
+    for (i = 0; i < buffers; i++)
+        choices *= 7;
+    for (choice = 0; choice < choices; choice++) {
+        uint32_t held[2] = {0, 0};
+        uint32_t rest = choice;
+
+        for (i = 0; i < buffers; i++, rest /= 7) {
+            const uint8_t *kind = kinds[rest % 7];
+
+            put_buffer(i, kind[0], kind[1]);
+            if (kind[0] == 1 || kind[0] == 2)
+                held[kind[1]]++;
+        }
+        CHECK(held[0] == buffers || held[1] == buffers
+              ? all_refuse(area, area_len) : is_taken());
+    }
 }
 
 static void refused_setups(void)
@@ -356,7 +470,7 @@ static void refused_setups(void)
 static void unconfigured_areas(void)
 {
     /* An unconfigured hub has every port Not Configured. */
-    new_hub(2, 2);
+    new_hub(2, 3);
     CHECK(refused_with(PORT_1, 1));
     CHECK(refused_with(PORT_2, 5));
     CHECK(refused_with(5, 1));
@@ -390,11 +504,16 @@ int main(void)
     lengths();
     new_hubs();
     written_form();
+    flags_byte();
     worked_example();
     wrong_lengths();
     refused_headers();
     refused_ports();
     refused_buffers();
+    keys_by_lane();
+    crowded_areas(2);
+    crowded_areas(3);
+    crowded_areas(4);
     refused_setups();
     unconfigured_areas();
     unreached_areas();

@@ -1,4 +1,4 @@
-/* The bench cases: four ports, two buffers. */
+/* The bench cases: four ports, three buffers, lane 0. */
 
 #include "bench_hub.h"
 
@@ -6,7 +6,7 @@ enum { PORT = 2 };
 
 static void configured_hub(void)
 {
-    new_hub(4, 2);
+    new_hub(4, 3);
     CHECK(set_configuration(1) == GRIMHOLDI_DONE);
 }
 
@@ -43,7 +43,7 @@ static grimholdi_answer descriptor(uint16_t length)
 
 static void new_hub_cases(void)
 {
-    new_hub(4, 2);
+    new_hub(4, 3);
     CHECK(poll().number == GRIMHOLDI_SILENT);                         /* P1 */
     CHECK(gives(descriptor(9), "\x09\x29\x04\x09\x00\x32\x64\x00\xFF", /* P2 */
                 9));
@@ -99,7 +99,8 @@ static void translator_cases(void)
 
     answer = launch();                                                /* P12 */
     CHECK(gives(answer, "", 0));
-    CHECK(answer.pid == GRIMHOLDI_PID_IN && answer.address == 5);
+    CHECK(answer.pid == GRIMHOLDI_PID_IN && answer.lane == 0
+          && answer.address == 5);
     CHECK(deliver(GRIMHOLDI_RESULT_DATA0, bytes, sizeof bytes)
           == GRIMHOLDI_DONE);
     for (i = 0; i < 2; i++) {

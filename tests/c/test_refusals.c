@@ -25,7 +25,7 @@ static int leaves_all(grimholdi_answer answer, uint8_t number)
 
 static void configured_hub(void)
 {
-    new_hub(4, 2);
+    new_hub(4, 3);
     CHECK(set_configuration(1) == GRIMHOLDI_DONE);
 }
 
@@ -37,8 +37,20 @@ static grimholdi_answer setup_of(size_t length, size_t reply_len)
                                      GRIMHOLDI_REQUEST_GET_CONFIGURATION,
                                      0, 0, 0, 0, 1, 0, 0};
 
-    return grimholdi_control(area, area_len, length == 0 ? none : setup, length,
-                             reply_len == 0 ? NULL : reply, reply_len);
+    return grimholdi_control(area, area_len, 0, length == 0 ? none : setup,
+                             length, reply_len == 0 ? NULL : reply, reply_len);
+}
+
+static grimholdi_answer poll_in(uint32_t lane, size_t reply_len)
+{
+    return grimholdi_poll(area, area_len, lane, reply_len == 0 ? NULL : reply,
+                          reply_len);
+}
+
+static grimholdi_answer launch_into(size_t reply_len)
+{
+    return grimholdi_launch(area, area_len, reply_len == 0 ? NULL : reply,
+                            reply_len);
 }
 
 static grimholdi_answer start(uint32_t pid, uint32_t transfer,
@@ -47,7 +59,7 @@ static grimholdi_answer start(uint32_t pid, uint32_t transfer,
                               size_t length)
 {
     uint8_t *payload = length == 0 ? NULL : allocate(length);
-    grimholdi_answer answer = grimholdi_start_split(area, area_len, pid,
+    grimholdi_answer answer = grimholdi_start_split(area, area_len, 0, pid,
                                                     transfer, low_speed,
                                                     toggle, address, endpoint,
                                                     payload, length);
@@ -59,7 +71,7 @@ static grimholdi_answer start(uint32_t pid, uint32_t transfer,
 static grimholdi_answer complete_in(uint32_t address, uint32_t endpoint,
                                     uint32_t direction, size_t reply_len)
 {
-    return grimholdi_complete_split(area, area_len, address, endpoint,
+    return grimholdi_complete_split(area, area_len, 0, address, endpoint,
                                     direction, reply_len == 0 ? NULL : reply,
                                     reply_len);
 }
@@ -133,7 +145,7 @@ static void control_refusals(void)
     LEAVES_ALL(GRIMHOLDI_NO_SPACE, setup_of(8, 0));
     LEAVES_ALL(GRIMHOLDI_OUTSIDE, setup_of(7, 0));
 
-    new_hub(4, 2);
+    new_hub(4, 3);
     for (i = 0; i < sizeof configured_only / sizeof *configured_only; i++)
         LEAVES_ALL(GRIMHOLDI_STALL,
                 request(configured_only[i].type, configured_only[i].code,
@@ -144,13 +156,13 @@ static void control_refusals(void)
 
 static void poll_refusals(void)
 {
-    new_hub(4, 2);
+    new_hub(4, 3);
     LEAVES_ALL(GRIMHOLDI_SILENT, poll());
-    LEAVES_ALL(GRIMHOLDI_NO_SPACE, grimholdi_poll(area, area_len, reply, 63));
-    LEAVES_ALL(GRIMHOLDI_NO_SPACE, grimholdi_poll(area, area_len, NULL, 0));
+    LEAVES_ALL(GRIMHOLDI_NO_SPACE, poll_in(0, 63));
+    LEAVES_ALL(GRIMHOLDI_NO_SPACE, poll_in(0, 0));
     configured_hub();
     LEAVES_ALL(GRIMHOLDI_NAK, poll());
-    LEAVES_ALL(GRIMHOLDI_NO_SPACE, grimholdi_poll(area, area_len, reply, 63));
+    LEAVES_ALL(GRIMHOLDI_NO_SPACE, poll_in(0, 63));
 }
 
 static void start_split_numbers(void)
@@ -183,7 +195,7 @@ static void start_split_numbers(void)
 
 static void start_split_refusals(void)
 {
-    new_hub(4, 2);
+    new_hub(4, 3);
     start_split_numbers();
     LEAVES_ALL(GRIMHOLDI_SILENT, start(9, 2, 0, 0, 5, 1, 0));
     configured_hub();
@@ -197,7 +209,7 @@ static void start_split_refusals(void)
 
 static void complete_split_refusals(void)
 {
-    new_hub(4, 2);
+    new_hub(4, 3);
     LEAVES_ALL(GRIMHOLDI_OUTSIDE, complete_in(128, 1, 1, 0));
     LEAVES_ALL(GRIMHOLDI_NO_SPACE, complete_in(5, 1, 1, 63));
     LEAVES_ALL(GRIMHOLDI_NO_SPACE, complete_in(5, 1, 1, 0));
@@ -218,16 +230,16 @@ static void complete_split_refusals(void)
 
 static void launch_refusals(void)
 {
-    new_hub(4, 2);
-    LEAVES_ALL(GRIMHOLDI_NO_SPACE, grimholdi_launch(area, area_len, reply, 63));
+    new_hub(4, 3);
+    LEAVES_ALL(GRIMHOLDI_NO_SPACE, launch_into(63));
     LEAVES_ALL(GRIMHOLDI_SILENT, launch());
     configured_hub();
     LEAVES_ALL(GRIMHOLDI_NAK, launch());
     CHECK(start_in(5, 1) == GRIMHOLDI_DONE);
-    LEAVES_ALL(GRIMHOLDI_NO_SPACE, grimholdi_launch(area, area_len, NULL, 0));
+    LEAVES_ALL(GRIMHOLDI_NO_SPACE, launch_into(0));
     CHECK(launch().number == GRIMHOLDI_DATA);
     LEAVES_ALL(GRIMHOLDI_NOT_NOW, launch());
-    LEAVES_ALL(GRIMHOLDI_NO_SPACE, grimholdi_launch(area, area_len, reply, 63));
+    LEAVES_ALL(GRIMHOLDI_NO_SPACE, launch_into(63));
 }
 
 static void deliver_numbers(void)
@@ -251,7 +263,7 @@ static void deliver_numbers(void)
 
 static void deliver_refusals(void)
 {
-    new_hub(4, 2);
+    new_hub(4, 3);
     deliver_numbers();
     LEAVES_ALL(GRIMHOLDI_SILENT, result(10, 0));
     configured_hub();
@@ -289,7 +301,7 @@ static void line_event_refusals(void)
 {
     uint32_t number;
 
-    new_hub(4, 2);
+    new_hub(4, 3);
     LEAVES_ALL(GRIMHOLDI_OUTSIDE, line_event(8, 1));
     LEAVES_ALL(GRIMHOLDI_OUTSIDE, line_event(0, 0));
     LEAVES_ALL(GRIMHOLDI_OUTSIDE, line_event(0, 5));
@@ -308,6 +320,112 @@ static void line_event_refusals(void)
     LEAVES_ALL(GRIMHOLDI_DONE, line_event(7, 1));
 }
 
+/* Lanes: the four calls that name one. */
+
+static grimholdi_answer control_in(uint32_t lane, const uint8_t *setup,
+                                   size_t length, size_t reply_len)
+{
+    return grimholdi_control(area, area_len, lane, setup, length,
+                             reply_len == 0 ? NULL : reply, reply_len);
+}
+
+static grimholdi_answer start_in_lane(uint32_t lane, uint32_t address)
+{
+    return grimholdi_start_split(area, area_len, lane, GRIMHOLDI_PID_IN,
+                                 GRIMHOLDI_TRANSFER_BULK, 0, 0, address, 1,
+                                 NULL, 0);
+}
+
+static grimholdi_answer complete_in_lane(uint32_t lane, uint32_t address,
+                                         uint32_t direction, size_t reply_len)
+{
+    return grimholdi_complete_split(area, area_len, lane, address, 1,
+                                    direction, reply_len == 0 ? NULL : reply,
+                                    reply_len);
+}
+
+/* Requests that would be served, then with something else wrong as well. */
+static void control_lanes(uint32_t lane)
+{
+    static const uint8_t configure[9] = {0x00, 0x09, 1, 0, 0, 0, 0, 0, 0};
+    static const uint8_t reset[8] = {0x23, 0x09, 0, 0, 1, 0, 0, 0};
+    static const uint8_t describe[8] = {0xA0, 0x06, 0x00, 0x29, 0, 0, 9, 0};
+    static const uint8_t wrong[8] = {0xFF, 0xFF, 0xFF, 0xFF,
+                                     0xFF, 0xFF, 0xFF, 0xFF};
+
+    LEAVES_ALL(GRIMHOLDI_OUTSIDE, control_in(lane, configure, 8, 64));
+    LEAVES_ALL(GRIMHOLDI_OUTSIDE, control_in(lane, reset, 8, 64));
+    LEAVES_ALL(GRIMHOLDI_OUTSIDE, control_in(lane, describe, 8, 64));
+    LEAVES_ALL(GRIMHOLDI_OUTSIDE, control_in(lane, wrong, 8, 64));
+    LEAVES_ALL(GRIMHOLDI_OUTSIDE, control_in(lane, configure, 7, 64));
+    LEAVES_ALL(GRIMHOLDI_OUTSIDE, control_in(lane, configure, 9, 64));
+    LEAVES_ALL(GRIMHOLDI_OUTSIDE, control_in(lane, none, 0, 64));
+    LEAVES_ALL(GRIMHOLDI_OUTSIDE, control_in(lane, describe, 8, 63));
+    LEAVES_ALL(GRIMHOLDI_OUTSIDE, control_in(lane, wrong, 8, 0));
+}
+
+/* (5, 1) is held where anything is; (7, 1) never; 128 is no address. */
+static void other_lanes(uint32_t lane)
+{
+    LEAVES_ALL(GRIMHOLDI_OUTSIDE, poll_in(lane, 64));
+    LEAVES_ALL(GRIMHOLDI_OUTSIDE, poll_in(lane, 63));
+    LEAVES_ALL(GRIMHOLDI_OUTSIDE, poll_in(lane, 0));
+    LEAVES_ALL(GRIMHOLDI_OUTSIDE, start_in_lane(lane, 5));
+    LEAVES_ALL(GRIMHOLDI_OUTSIDE, start_in_lane(lane, 7));
+    LEAVES_ALL(GRIMHOLDI_OUTSIDE, start_in_lane(lane, 128));
+    LEAVES_ALL(GRIMHOLDI_OUTSIDE, complete_in_lane(lane, 5, 1, 64));
+    LEAVES_ALL(GRIMHOLDI_OUTSIDE, complete_in_lane(lane, 7, 1, 64));
+    LEAVES_ALL(GRIMHOLDI_OUTSIDE, complete_in_lane(lane, 5, 1, 63));
+    LEAVES_ALL(GRIMHOLDI_OUTSIDE, complete_in_lane(lane, 5, 2, 0));
+}
+
+static void lane_numbers(void)
+{
+    static const uint32_t outside[] = {2, 255, 0x100, 0x101, 0x10000,
+                                       FAR_NUMBER};
+    size_t i;
+
+    for (i = 0; i < sizeof outside / sizeof *outside; i++) {
+        control_lanes(outside[i]);
+        other_lanes(outside[i]);
+    }
+}
+
+/* Both lanes hold (5, 1) ready with data; port 2 has a change bit. */
+static void busy_hub(void)
+{
+    uint32_t lane;
+
+    configured_hub();
+    CHECK(set_feature(GRIMHOLDI_PORT_POWER, 2) == GRIMHOLDI_DONE);
+    CHECK(event(GRIMHOLDI_EVENT_ATTACH_FULL, 2) == GRIMHOLDI_DONE);
+    for (lane = 0; lane <= GRIMHOLDI_LANE_MAX; lane++) {
+        CHECK(start_in_from(lane, 5, 1) == GRIMHOLDI_DONE);
+        CHECK(launch().number == GRIMHOLDI_DATA);
+        CHECK(deliver(GRIMHOLDI_RESULT_DATA0, (const uint8_t *)"abc", 3)
+              == GRIMHOLDI_DONE);
+    }
+}
+
+static void lane_refusals(void)
+{
+    uint32_t lane;
+
+    new_hub(4, 3);
+    lane_numbers();
+    configured_hub();
+    lane_numbers();
+    busy_hub();
+    lane_numbers();
+
+    /* Lanes 0 and 1 are served. */
+    for (lane = 0; lane <= GRIMHOLDI_LANE_MAX; lane++) {
+        CHECK(gives(poll_from(lane), "\x04", 1));
+        CHECK(gives(complete_from(lane, 5, 1, GRIMHOLDI_DIRECTION_IN),
+                    "abc", 3));
+    }
+}
+
 int main(void)
 {
     control_refusals();
@@ -317,6 +435,7 @@ int main(void)
     launch_refusals();
     deliver_refusals();
     line_event_refusals();
+    lane_refusals();
     free_hub();
     return check_summary("refusals");
 }

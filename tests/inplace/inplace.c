@@ -51,7 +51,9 @@ enum { EMPTY, PENDING, READY, OLD };
 
 enum {
     FLAG_LOW_SPEED = 1,
-    FLAG_TOGGLE = 2
+    FLAG_TOGGLE = 2,
+    FLAG_LANE = 4,
+    ALL_FLAGS = 7
 };
 
 static uint8_t *port_of(uint8_t *area, uint32_t number)
@@ -95,7 +97,13 @@ static int removable_ok(uint32_t ports, uint32_t removable)
     return (removable & 1) == 0 && removable >> (ports + 1) == 0;
 }
 
-static int key_ok(uint32_t address, uint32_t endpoint)
+static int lane_ok(uint32_t lane)
+{
+    return lane <= GRIMHOLDI_LANE_MAX;
+}
+
+/* The numbers of a key beside its lane. */
+static int target_ok(uint32_t address, uint32_t endpoint)
 {
     return address <= GRIMHOLDI_ADDRESS_MAX
            && endpoint <= GRIMHOLDI_ENDPOINT_MAX;
@@ -171,24 +179,41 @@ static uint8_t direction_of(uint32_t pid)
                                    : GRIMHOLDI_DIRECTION_OUT;
 }
 
-static int has_key(const uint8_t *buffer, uint32_t address, uint32_t endpoint,
-                   uint32_t direction)
+static uint8_t lane_of(const uint8_t *buffer)
 {
-    return buffer[STATUS] != EMPTY && buffer[ADDRESS] == address
-           && buffer[ENDPOINT] == endpoint
+    return (buffer[FLAGS] & FLAG_LANE) != 0;
+}
+
+static int has_key(const uint8_t *buffer, uint32_t lane, uint32_t address,
+                   uint32_t endpoint, uint32_t direction)
+{
+    return buffer[STATUS] != EMPTY && lane_of(buffer) == lane
+           && buffer[ADDRESS] == address && buffer[ENDPOINT] == endpoint
            && direction_of(buffer[PID]) == direction;
 }
 
 /* The number of the buffer with the key, or the number of buffers. */
-static uint32_t find(uint8_t *area, uint32_t address, uint32_t endpoint,
-                     uint32_t direction)
+static uint32_t find(uint8_t *area, uint32_t lane, uint32_t address,
+                     uint32_t endpoint, uint32_t direction)
 {
     uint32_t i;
 
     for (i = 0; i < area[BUFFERS]; i++)
-        if (has_key(buffer_of(area, i), address, endpoint, direction))
+        if (has_key(buffer_of(area, i), lane, address, endpoint, direction))
             break;
     return i;
+}
+
+/* Pending or ready: counted for its lane, and not free. */
+static int is_held(const uint8_t *buffer)
+{
+    return buffer[STATUS] == PENDING || buffer[STATUS] == READY;
+}
+
+/* How many buffers one lane may hold. */
+static uint32_t limit(const uint8_t *area)
+{
+    return area[BUFFERS] - 1u;
 }
 
 /* Validity of the area. */
@@ -253,8 +278,8 @@ static int buffer_ok(const uint8_t *buffer)
         return 0;
     }
     return token_ok(buffer[PID], buffer[TRANSFER])
-           && buffer[FLAGS] <= (FLAG_LOW_SPEED | FLAG_TOGGLE)
-           && key_ok(buffer[ADDRESS], buffer[ENDPOINT])
+           && buffer[FLAGS] <= ALL_FLAGS
+           && target_ok(buffer[ADDRESS], buffer[ENDPOINT])
            && zero(buffer + BYTES + length, GRIMHOLDI_PAYLOAD_MAX - length);
 }
 
@@ -269,14 +294,31 @@ static int buffer_differs(uint8_t *area, uint32_t number)
     for (i = 0; i < number; i++) {
         const uint8_t *other = buffer_of(area, i);
 
-        if (has_key(other, buffer[ADDRESS], buffer[ENDPOINT],
-                    direction_of(buffer[PID])))
+        if (has_key(other, lane_of(buffer), buffer[ADDRESS],
+                    buffer[ENDPOINT], direction_of(buffer[PID])))
             return 0;
         if (buffer[STATUS] == PENDING && other[STATUS] == PENDING
             && buffer[PLACE] == other[PLACE])
             return 0;
     }
     return 1;
+}
+
+/* Each buffer for itself, and no lane beyond its limit. */
+static int buffers_ok(uint8_t *area)
+{
+    uint32_t held[GRIMHOLDI_LANE_MAX + 1] = {0};
+    uint32_t i;
+
+    for (i = 0; i < area[BUFFERS]; i++) {
+        const uint8_t *buffer = buffer_of(area, i);
+
+        if (!buffer_ok(buffer) || !buffer_differs(area, i))
+            return 0;
+        if (is_held(buffer))
+            held[lane_of(buffer)]++;
+    }
+    return held[0] <= limit(area) && held[1] <= limit(area);
 }
 
 static int area_ok(uint8_t *area, size_t length)
@@ -288,9 +330,8 @@ static int area_ok(uint8_t *area, size_t length)
     for (i = 1; i <= area[PORTS]; i++)
         if (!port_ok(port_of(area, i), area[CONFIGURED]))
             return 0;
-    for (i = 0; i < area[BUFFERS]; i++)
-        if (!buffer_ok(buffer_of(area, i)) || !buffer_differs(area, i))
-            return 0;
+    if (!buffers_ok(area))
+        return 0;
     return area[LOW_SIDE] != LOW_RUNNING
            || buffer_of(area, area[RUNNING_BUFFER])[STATUS] == PENDING;
 }
@@ -492,17 +533,34 @@ static void set_configuration(uint8_t *area, uint8_t value)
     empty_translator(area);
 }
 
-static void clear_tt_buffer(uint8_t *area, uint16_t value)
+/* Empties one buffer; a running transaction is abandoned with it. */
+static void empty_buffer(uint8_t *area, uint32_t number)
 {
-    uint32_t i = find(area, value >> GRIMHOLDI_TT_ADDRESS_SHIFT & 0x7F,
+    memset(buffer_of(area, number), 0, BUFFER_LENGTH);
+    if (area[LOW_SIDE] == LOW_RUNNING && area[RUNNING_BUFFER] == number)
+        set_low_side(area, LOW_ABANDONED, 0);
+}
+
+static void clear_tt_buffer(uint8_t *area, uint32_t lane, uint16_t value)
+{
+    uint32_t i = find(area, lane, value >> GRIMHOLDI_TT_ADDRESS_SHIFT & 0x7F,
                       value >> GRIMHOLDI_TT_ENDPOINT_SHIFT & 0x0F,
                       value >> GRIMHOLDI_TT_DIRECTION_SHIFT);
 
-    if (i == area[BUFFERS])
-        return;
-    memset(buffer_of(area, i), 0, BUFFER_LENGTH);
-    if (area[LOW_SIDE] == LOW_RUNNING && area[RUNNING_BUFFER] == i)
-        set_low_side(area, LOW_ABANDONED, 0);
+    if (i < area[BUFFERS])
+        empty_buffer(area, i);
+}
+
+static void reset_tt(uint8_t *area, uint32_t lane)
+{
+    uint32_t i;
+
+    for (i = 0; i < area[BUFFERS]; i++) {
+        const uint8_t *buffer = buffer_of(area, i);
+
+        if (buffer[STATUS] != EMPTY && lane_of(buffer) == lane)
+            empty_buffer(area, i);
+    }
 }
 
 static int tt_value_ok(uint16_t value)
@@ -516,8 +574,8 @@ static int tt_value_ok(uint16_t value)
 
 #define REQUEST(type, code) ((uint16_t)((type) << 8 | (code)))
 
-static grimholdi_answer control(uint8_t *area, const uint8_t *setup,
-                                uint8_t *reply)
+static grimholdi_answer control(uint8_t *area, uint32_t lane,
+                                const uint8_t *setup, uint8_t *reply)
 {
     const uint16_t request = REQUEST(setup[0], setup[1]);
     const uint16_t value = (uint16_t)(setup[2] | setup[3] << 8);
@@ -591,12 +649,12 @@ static grimholdi_answer control(uint8_t *area, const uint8_t *setup,
     case REQUEST(GRIMHOLDI_TYPE_SET_PORT, GRIMHOLDI_REQUEST_CLEAR_TT_BUFFER):
         if (!tt_value_ok(value) || index != 1 || length != 0)
             return answer(GRIMHOLDI_STALL);
-        clear_tt_buffer(area, value);
+        clear_tt_buffer(area, lane, value);
         return answer(GRIMHOLDI_DONE);
     case REQUEST(GRIMHOLDI_TYPE_SET_PORT, GRIMHOLDI_REQUEST_RESET_TT):
         if (value != 0 || index != 1 || length != 0)
             return answer(GRIMHOLDI_STALL);
-        empty_translator(area);
+        reset_tt(area, lane);
         return answer(GRIMHOLDI_DONE);
     default:
         return answer(GRIMHOLDI_STALL);
@@ -657,18 +715,32 @@ static uint32_t earliest(uint8_t *area)
     return best;
 }
 
-/* The lowest-numbered empty or old buffer, or the number of buffers. */
-static uint32_t lowest_free(uint8_t *area)
+/* Search for a start-split. */
+
+typedef struct {
+    uint32_t own;         /* the buffer with the key */
+    uint32_t lowest_free; /* the first that is empty or old */
+    uint32_t held;        /* how many the lane holds */
+} search;
+
+/* One pass; a buffer that isn't there is given as the number of buffers. */
+static search look(uint8_t *area, uint32_t lane, uint32_t address,
+                   uint32_t endpoint, uint32_t direction)
 {
+    search found = {area[BUFFERS], area[BUFFERS], 0};
     uint32_t i;
 
     for (i = 0; i < area[BUFFERS]; i++) {
-        uint8_t status = buffer_of(area, i)[STATUS];
+        const uint8_t *buffer = buffer_of(area, i);
 
-        if (status == EMPTY || status == OLD)
-            break;
+        if (has_key(buffer, lane, address, endpoint, direction))
+            found.own = i;
+        if (is_held(buffer))
+            found.held += lane_of(buffer) == lane;
+        else if (found.lowest_free == area[BUFFERS])
+            found.lowest_free = i;
     }
-    return i;
+    return found;
 }
 
 /* The calls. */
@@ -701,23 +773,26 @@ grimholdi_answer INPLACE(new)(uint8_t *area, size_t area_len,
 }
 
 grimholdi_answer INPLACE(control)(uint8_t *area, size_t area_len,
+                                  uint32_t lane,
                                   const uint8_t *setup, size_t setup_len,
                                   uint8_t *reply, size_t reply_len)
 {
-    if (!area_ok(area, area_len) || setup_len != GRIMHOLDI_SETUP_LENGTH)
+    if (!area_ok(area, area_len) || !lane_ok(lane)
+        || setup_len != GRIMHOLDI_SETUP_LENGTH)
         return answer(GRIMHOLDI_OUTSIDE);
     if (reply_len < GRIMHOLDI_REPLY_LENGTH)
         return answer(GRIMHOLDI_NO_SPACE);
-    return control(area, setup, reply);
+    return control(area, lane, setup, reply);
 }
 
 grimholdi_answer INPLACE(poll)(uint8_t *area, size_t area_len,
+                               uint32_t lane,
                                uint8_t *reply, size_t reply_len)
 {
     uint8_t bitmap = 0;
     uint32_t i;
 
-    if (!area_ok(area, area_len))
+    if (!area_ok(area, area_len) || !lane_ok(lane))
         return answer(GRIMHOLDI_OUTSIDE);
     if (reply_len < GRIMHOLDI_REPLY_LENGTH)
         return answer(GRIMHOLDI_NO_SPACE);
@@ -732,31 +807,33 @@ grimholdi_answer INPLACE(poll)(uint8_t *area, size_t area_len,
 }
 
 grimholdi_answer INPLACE(start_split)(uint8_t *area, size_t area_len,
+                                      uint32_t lane,
                                       uint32_t pid, uint32_t transfer,
                                       uint32_t low_speed, uint32_t toggle,
                                       uint32_t address, uint32_t endpoint,
                                       const uint8_t *payload,
                                       size_t payload_len)
 {
+    search found;
     uint8_t *buffer;
     uint32_t i;
 
-    if (!area_ok(area, area_len) || !token_ok(pid, transfer) || low_speed > 1
-        || toggle > 1 || !key_ok(address, endpoint)
+    if (!area_ok(area, area_len) || !lane_ok(lane) || !token_ok(pid, transfer)
+        || low_speed > 1 || toggle > 1 || !target_ok(address, endpoint)
         || !start_length_ok(pid, payload_len))
         return answer(GRIMHOLDI_OUTSIDE);
     if (!area[CONFIGURED])
         return answer(GRIMHOLDI_SILENT);
 
-    i = find(area, address, endpoint, direction_of(pid));
-    if (i < area[BUFFERS]) {
-        if (buffer_of(area, i)[STATUS] != OLD)
-            return answer(GRIMHOLDI_DONE);
-    } else {
-        i = lowest_free(area);
-        if (i == area[BUFFERS])
-            return answer(GRIMHOLDI_NAK);
-    }
+    /* A repeat comes before the limit, the limit before the own old one. */
+    found = look(area, lane, address, endpoint, direction_of(pid));
+    if (found.own < area[BUFFERS] && is_held(buffer_of(area, found.own)))
+        return answer(GRIMHOLDI_DONE);
+    if (found.held == limit(area))
+        return answer(GRIMHOLDI_NAK);
+    i = found.own < area[BUFFERS] ? found.own : found.lowest_free;
+    if (i == area[BUFFERS])
+        return answer(GRIMHOLDI_NAK);
 
     buffer = buffer_of(area, i);
     buffer[PLACE] = renumber(area);
@@ -764,7 +841,8 @@ grimholdi_answer INPLACE(start_split)(uint8_t *area, size_t area_len,
     buffer[PID] = (uint8_t)pid;
     buffer[TRANSFER] = (uint8_t)transfer;
     buffer[FLAGS] = (uint8_t)((low_speed ? FLAG_LOW_SPEED : 0)
-                              | (toggle ? FLAG_TOGGLE : 0));
+                              | (toggle ? FLAG_TOGGLE : 0)
+                              | (lane ? FLAG_LANE : 0));
     buffer[ADDRESS] = (uint8_t)address;
     buffer[ENDPOINT] = (uint8_t)endpoint;
     set_bytes(buffer, payload, payload_len);
@@ -772,6 +850,7 @@ grimholdi_answer INPLACE(start_split)(uint8_t *area, size_t area_len,
 }
 
 grimholdi_answer INPLACE(complete_split)(uint8_t *area, size_t area_len,
+                                         uint32_t lane,
                                          uint32_t address, uint32_t endpoint,
                                          uint32_t direction,
                                          uint8_t *reply, size_t reply_len)
@@ -780,7 +859,8 @@ grimholdi_answer INPLACE(complete_split)(uint8_t *area, size_t area_len,
     uint8_t *buffer;
     uint32_t i;
 
-    if (!area_ok(area, area_len) || !key_ok(address, endpoint)
+    if (!area_ok(area, area_len) || !lane_ok(lane)
+        || !target_ok(address, endpoint)
         || direction > GRIMHOLDI_DIRECTION_IN)
         return answer(GRIMHOLDI_OUTSIDE);
     if (reply_len < GRIMHOLDI_REPLY_LENGTH)
@@ -788,7 +868,7 @@ grimholdi_answer INPLACE(complete_split)(uint8_t *area, size_t area_len,
     if (!area[CONFIGURED])
         return answer(GRIMHOLDI_SILENT);
 
-    i = find(area, address, endpoint, direction);
+    i = find(area, lane, address, endpoint, direction);
     if (i == area[BUFFERS])
         return answer(GRIMHOLDI_STALL);
     buffer = buffer_of(area, i);
@@ -828,6 +908,7 @@ grimholdi_answer INPLACE(launch)(uint8_t *area, size_t area_len,
     a = data(reply, buffer + BYTES, buffer[LENGTH]);
     a.pid = buffer[PID];
     a.transfer = buffer[TRANSFER];
+    a.lane = lane_of(buffer);
     a.address = buffer[ADDRESS];
     a.endpoint = buffer[ENDPOINT];
     a.direction = direction_of(buffer[PID]);

@@ -20,17 +20,21 @@ grimholdi_answer INPLACE(new)(uint8_t *area, size_t area_len,
                               uint32_t power_good, uint32_t current,
                               uint32_t removable);
 grimholdi_answer INPLACE(control)(uint8_t *area, size_t area_len,
+                                  uint32_t lane,
                                   const uint8_t *setup, size_t setup_len,
                                   uint8_t *reply, size_t reply_len);
 grimholdi_answer INPLACE(poll)(uint8_t *area, size_t area_len,
+                               uint32_t lane,
                                uint8_t *reply, size_t reply_len);
 grimholdi_answer INPLACE(start_split)(uint8_t *area, size_t area_len,
+                                      uint32_t lane,
                                       uint32_t pid, uint32_t transfer,
                                       uint32_t low_speed, uint32_t toggle,
                                       uint32_t address, uint32_t endpoint,
                                       const uint8_t *payload,
                                       size_t payload_len);
 grimholdi_answer INPLACE(complete_split)(uint8_t *area, size_t area_len,
+                                         uint32_t lane,
                                          uint32_t address, uint32_t endpoint,
                                          uint32_t direction,
                                          uint8_t *reply, size_t reply_len);

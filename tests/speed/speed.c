@@ -9,8 +9,9 @@
  *   restore             restoring the area alone
  *   poll, status, tick  that call; status is GetPortStatus
  *
- * All ports are enabled with change bits set.  All buffers but the first hold
- * a ready 64-byte result.
+ * All ports are enabled with change bits set.  The calls that are measured are
+ * made in lane 0, which holds the first buffer.  All others hold a ready
+ * 64-byte result of lane 1, as many as the limit permits.
  */
 
 #include "inplace.h"
@@ -21,20 +22,22 @@
 
 enum { START, LAUNCH, DELIVER, COMPLETE, STAGES };
 
+enum { LANE = 0, OTHER_LANE = 1 };
+
 enum { ADDRESS = 5, OTHER_ADDRESS = 6, ENDPOINT = 1 };
 
 typedef struct {
     size_t (*area_length)(uint32_t, uint32_t);
     grimholdi_answer (*new_hub)(uint8_t *, size_t, uint32_t, uint32_t,
                                 uint32_t, uint32_t, uint32_t);
-    grimholdi_answer (*control)(uint8_t *, size_t, const uint8_t *, size_t,
-                                uint8_t *, size_t);
-    grimholdi_answer (*poll)(uint8_t *, size_t, uint8_t *, size_t);
+    grimholdi_answer (*control)(uint8_t *, size_t, uint32_t, const uint8_t *,
+                                size_t, uint8_t *, size_t);
+    grimholdi_answer (*poll)(uint8_t *, size_t, uint32_t, uint8_t *, size_t);
     grimholdi_answer (*start_split)(uint8_t *, size_t, uint32_t, uint32_t,
                                     uint32_t, uint32_t, uint32_t, uint32_t,
-                                    const uint8_t *, size_t);
+                                    uint32_t, const uint8_t *, size_t);
     grimholdi_answer (*complete_split)(uint8_t *, size_t, uint32_t, uint32_t,
-                                       uint32_t, uint8_t *, size_t);
+                                       uint32_t, uint32_t, uint8_t *, size_t);
     grimholdi_answer (*launch)(uint8_t *, size_t, uint8_t *, size_t);
     grimholdi_answer (*deliver)(uint8_t *, size_t, uint32_t, const uint8_t *,
                                 size_t);
@@ -77,16 +80,16 @@ static grimholdi_answer request(uint8_t type, uint8_t code, uint8_t value,
     const uint8_t setup[GRIMHOLDI_SETUP_LENGTH] = {type, code, value, 0,
                                                    index, 0, length, 0};
 
-    return calls->control(area, area_len, setup, sizeof setup,
+    return calls->control(area, area_len, LANE, setup, sizeof setup,
                           reply, sizeof reply);
 }
 
-/* One of the four calls of a transaction. */
-static void stage(int which, int out, uint32_t address)
+/* One of the four calls of a transaction; launch and deliver name no key. */
+static void stage(int which, int out, uint32_t lane, uint32_t address)
 {
     switch (which) {
     case START:
-        expect(calls->start_split(area, area_len,
+        expect(calls->start_split(area, area_len, lane,
                                   out ? GRIMHOLDI_PID_OUT : GRIMHOLDI_PID_IN,
                                   GRIMHOLDI_TRANSFER_BULK, 0, 0, address,
                                   ENDPOINT, payload, out ? sizeof payload : 0),
@@ -104,7 +107,7 @@ static void stage(int which, int out, uint32_t address)
                GRIMHOLDI_DONE);
         break;
     case COMPLETE:
-        expect(calls->complete_split(area, area_len, address, ENDPOINT,
+        expect(calls->complete_split(area, area_len, lane, address, ENDPOINT,
                                      out ? GRIMHOLDI_DIRECTION_OUT
                                          : GRIMHOLDI_DIRECTION_IN,
                                      reply, sizeof reply),
@@ -140,12 +143,12 @@ static void set_up(int out)
     for (which = START; which < STAGES; which++) {
         if (which == LAUNCH)
             for (i = 1; i < buffers; i++)
-                stage(START, 0, OTHER_ADDRESS + i);
-        stage(which, out, ADDRESS);
+                stage(START, 0, OTHER_LANE, OTHER_ADDRESS + i);
+        stage(which, out, LANE, ADDRESS);
     }
     for (i = 1; i < buffers; i++) {
-        stage(LAUNCH, 0, 0);
-        stage(DELIVER, 0, 0);
+        stage(LAUNCH, 0, OTHER_LANE, OTHER_ADDRESS + i);
+        stage(DELIVER, 0, OTHER_LANE, OTHER_ADDRESS + i);
     }
 }
 
@@ -186,20 +189,20 @@ static void measure(int kind, int out, long loops)
 
     if (kind < STAGES)
         for (which = START; which < kind; which++)
-            stage(which, out, ADDRESS);
+            stage(which, out, LANE, ADDRESS);
     memcpy(saved, area, area_len);
 
     while (loops-- > 0) {
         switch (kind) {
         case TRANSACTION:
             for (which = START; which < STAGES; which++)
-                stage(which, out, ADDRESS);
+                stage(which, out, LANE, ADDRESS);
             break;
         case RESTORE:
             memcpy(area, saved, area_len);
             break;
         case POLL:
-            expect(calls->poll(area, area_len, reply, sizeof reply),
+            expect(calls->poll(area, area_len, LANE, reply, sizeof reply),
                    GRIMHOLDI_DATA);
             break;
         case STATUS:
@@ -212,7 +215,7 @@ static void measure(int kind, int out, long loops)
             break;
         default:
             memcpy(area, saved, area_len);
-            stage(kind, out, ADDRESS);
+            stage(kind, out, LANE, ADDRESS);
             break;
         }
     }

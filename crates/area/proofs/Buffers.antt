@@ -2,7 +2,7 @@
 use mathlib.Core.Path.{_≡_, refl, sym, ap, _∙_}
 use mathlib.Core.List.{List, [], _∷_, _++_}
 use mathlib.Core.Bool.{Bool, true, false, cond, _&&_, _||_, and-eq-true-iff}
-use Prim.Native.Nat.{ℕ, _+_, _-_, _≤_}
+use Prim.Native.Nat.{ℕ, _+_, _-_, _/_, _≤_}
 use native.Mathlib.Omega.{arith}
 use lib.ListN.{length, getD, take, drop, replicate, length-append, length-take, length-drop, length-replicate, take-append-drop}
 use lib.Seq.{length-take-le, take-all, drop-at, drop-drop}
@@ -12,6 +12,8 @@ use Rattle.port.specs.Status.{byteOf}
 use Rattle.port.specs.Claims.{bitsOf}
 use Rattle.port.proofs.Bits.{bits-back}
 use Rattle.payload.specs.Payload.{padded}
+use Rattle.buffer.specs.declared.Lane.{Lane}
+use Rattle.buffer.specs.declared.Lane.the-variants.{Zero, One}
 use Rattle.buffer.specs.declared.DeviceAddress.{DeviceAddress}
 use Rattle.buffer.specs.declared.Pid.{Pid}
 use Rattle.buffer.specs.declared.TransferType.{TransferType}
@@ -20,6 +22,7 @@ use Rattle.buffer.specs.declared.StartSplit.{StartSplit}
 use Rattle.buffer.specs.declared.Slot.{Slot}
 use Rattle.buffer.specs.declared.Slot.the-variants.{Empty, Pending, Ready, Old}
 use Rattle.buffer.specs.declared.Buffer.{Buffer}
+use Rattle.buffer.specs.Key.{sameLane}
 use Rattle.buffer.specs.Lengths.{numbersFit, suits, resultLength}
 use Rattle.buffer.specs.Valid.{slotFits, Whole}
 use Rattle.translator.specs.Answers.{pidNumber}
@@ -29,7 +32,7 @@ use Rattle.numbers.specs.Written.{typeNumber, resultWritten}
 use Rattle.numbers.proofs.Laws.{numbers-claims}
 use Rattle.taken.specs.Rows.{blank}
 use Rattle.area.specs.Written.{heldBytes, slotBytes, bufferBytes}
-use Rattle.taken.specs.Read.{heldSplit, slotNamed, slotOf, bufferOf, emptyFits, heldFits, namesFit, bufferFits}
+use Rattle.taken.specs.Read.{isOdd, heldSplit, slotNamed, slotOf, bufferOf, emptyFits, heldFits, namesFit, bufferFits}
 use Rattle.taken.proofs.Rows.{blank-to, blank-of}
 use Rattle.taken.proofs.Parts.{three}
 use Rattle.area.proofs.Ports.{bits-whole}
@@ -45,25 +48,38 @@ type-again = numbers-claims .types .value-back
 result-again : (r : DeviceResult) → resultFrom (resultWritten r) ≡ r
 result-again = numbers-claims .results .value-back
 
-flags-lt : (a b : Bool) → ltb (byteOf (a ∷ b ∷ [])) 4 ≡ true
-flags-lt true true = refl
-flags-lt true false = refl
-flags-lt false true = refl
-flags-lt false false = refl
+lane-again : (z : Lane) → cond (sameLane z One) One Zero ≡ z
+lane-again Zero = refl
+lane-again One = refl
+
+one-again : (b : Bool) → sameLane (cond b One Zero) One ≡ b
+one-again true = refl
+one-again false = refl
+
+flags-lt : (a b c : Bool) → ltb (byteOf (a ∷ b ∷ c ∷ [])) 8 ≡ true
+flags-lt true true true = refl
+flags-lt true true false = refl
+flags-lt true false true = refl
+flags-lt true false false = refl
+flags-lt false true true = refl
+flags-lt false true false = refl
+flags-lt false false true = refl
+flags-lt false false false = refl
 
 -- ---- a slot
 
-split-is : (p p′ : Pid) (t t′ : TransferType) (f f′ g g′ : Bool) (a : DeviceAddress) (e : ℕ) → p ≡ p′ → t ≡ t′ → f ≡ f′ → g ≡ g′
+split-is : (z z′ : Lane) (p p′ : Pid) (t t′ : TransferType) (f f′ g g′ : Bool) (a : DeviceAddress) (e : ℕ) → z ≡ z′ → p ≡ p′ → t ≡ t′ → f ≡ f′ → g ≡ g′
     → _≡_ {A = StartSplit}
-    (record { pid = p; transfer = t; lowspeed = f; toggle = g; address = a; endpoint = e })
-    (record { pid = p′; transfer = t′; lowspeed = f′; toggle = g′; address = a; endpoint = e })
-split-is p p′ t t′ f f′ g g′ a e x y z w = cc
+    (record { lane = z; pid = p; transfer = t; lowspeed = f; toggle = g; address = a; endpoint = e })
+    (record { lane = z′; pid = p′; transfer = t′; lowspeed = f′; toggle = g′; address = a; endpoint = e })
+split-is z z′ p p′ t t′ f f′ g g′ a e v x y u w = cc
 
 split-again : (k : ℕ) (s : StartSplit) (last n : ℕ) (l : List ℕ) → heldSplit (heldBytes k s last n ++ l) ≡ s
 unfolding heldSplit
 split-again k s last n l =
-    let b : bitsOf 2 (byteOf (s .lowspeed ∷ s .toggle ∷ [])) ≡ s .lowspeed ∷ s .toggle ∷ [] = bits-back (s .lowspeed ∷ s .toggle ∷ []) in
-    split-is _ (s .pid) _ (s .transfer) _ (s .lowspeed) _ (s .toggle) (s .address) (s .endpoint) (pid-again (s .pid)) (type-again (s .transfer))
+    let fs : List Bool = s .lowspeed ∷ s .toggle ∷ sameLane (s .lane) One ∷ [] in
+    let b : bitsOf 3 (byteOf fs) ≡ fs = bits-back fs in
+    split-is _ (s .lane) _ (s .pid) _ (s .transfer) _ (s .lowspeed) _ (s .toggle) (s .address) (s .endpoint) (ap (λ (x : List Bool). cond (getD x 2 false) One Zero) b ∙ lane-again (s .lane)) (pid-again (s .pid)) (type-again (s .transfer))
     (ap (λ (x : List Bool). getD x 0 false) b) (ap (λ (x : List Bool). getD x 1 false) b)
 
 pub slot-again : (s : Slot) (n : ℕ) (l : List ℕ) → slotOf (slotBytes s n ++ l) ≡ s
@@ -86,8 +102,8 @@ slot-size (Ready s r) n = refl
 slot-size (Old s r) n = refl
 
 held-of : (k : ℕ) (s : StartSplit) (last : ℕ) → ltb k 4 ≡ true → eqb k 1 || isResult last ≡ true
-    → heldFits k (pidNumber (s .pid)) (typeNumber (s .transfer)) (byteOf (s .lowspeed ∷ s .toggle ∷ [])) last ≡ true
-held-of k s last e f = rw (e, numbers-claims .pids .named (s .pid), numbers-claims .types .named (s .transfer), flags-lt (s .lowspeed) (s .toggle)) f
+    → heldFits k (pidNumber (s .pid)) (typeNumber (s .transfer)) (byteOf (s .lowspeed ∷ s .toggle ∷ sameLane (s .lane) One ∷ [])) last ≡ true
+held-of k s last e f = rw (e, numbers-claims .pids .named (s .pid), numbers-claims .types .named (s .transfer), flags-lt (s .lowspeed) (s .toggle) (sameLane (s .lane) One)) f
 
 names-of : (s : Slot) (n : ℕ) (l : List ℕ) → namesFit (slotBytes s n ++ l) ≡ true
 unfolding namesFit
@@ -130,11 +146,12 @@ module _ (l : List ℕ) where
       (sym z) (sym (eqb-true _ 0 (y .0))) (sym (eqb-true _ 0 (u .0))) (sym (eqb-true _ 0 (u .1))) (sym (eqb-true _ 0 (v .0))) (sym (eqb-true _ 0 (w .0))) (sym (eqb-true _ 0 (w .1)))
 
   held-same : (k : ℕ) {m : ℕ} → pidNumber (pidFrom (getD l 1 0)) ≡ getD l 1 0 → typeNumber (typeFrom (getD l 2 0)) ≡ getD l 2 0
-      → byteOf (bitsOf 2 (getD l 3 0)) ≡ getD l 3 0 → m ≡ getD l 6 0
+      → byteOf (bitsOf 3 (getD l 3 0)) ≡ getD l 3 0 → m ≡ getD l 6 0
       → heldBytes k (heldSplit l) m (getD l 7 0) ≡ k ∷ getD l 1 0 ∷ getD l 2 0 ∷ getD l 3 0 ∷ getD l 4 0 ∷ getD l 5 0 ∷ getD l 6 0 ∷ getD l 7 0 ∷ []
   unfolding heldSplit
   held-same k {m} p t b r =
-      eight-is k k _ (getD l 1 0) _ (getD l 2 0) _ (getD l 3 0) (getD l 4 0) (getD l 4 0) (getD l 5 0) (getD l 5 0) m (getD l 6 0) (getD l 7 0) refl p t b refl refl r
+      eight-is k k _ (getD l 1 0) _ (getD l 2 0) _ (getD l 3 0) (getD l 4 0) (getD l 4 0) (getD l 5 0) (getD l 5 0) m (getD l 6 0) (getD l 7 0) refl p t
+      (ap (λ (x : Bool). byteOf (isOdd (getD l 3 0) ∷ isOdd (getD l 3 0 / 2) ∷ x ∷ [])) (one-again (isOdd (getD l 3 0 / 2 / 2))) ∙ b) refl refl r
 
   held-to : ¬ (getD l 0 0 ≡ 0) → heldFits (getD l 0 0) (getD l 1 0) (getD l 2 0) (getD l 3 0) (getD l 6 0) ≡ true
       → slotBytes (slotOf l) (getD l 7 0) ≡ firsts l
@@ -143,13 +160,13 @@ module _ (l : List ℕ) where
       let s : ℕ = getD l 0 0 in
       let f : ℕ = getD l 3 0 in
       let last : ℕ = getD l 6 0 in
-      let x = and-eq-true-iff (ltb s 4 && (isPid (getD l 1 0) && isType (getD l 2 0))) (ltb f 4 && (eqb s 1 || isResult last)) .0 e in
+      let x = and-eq-true-iff (ltb s 4 && (isPid (getD l 1 0) && isType (getD l 2 0))) (ltb f 8 && (eqb s 1 || isResult last)) .0 e in
       let y = and-eq-true-iff (ltb s 4) (isPid (getD l 1 0) && isType (getD l 2 0)) .0 (x .0) in
       let u = and-eq-true-iff (isPid (getD l 1 0)) (isType (getD l 2 0)) .0 (y .1) in
-      let v = and-eq-true-iff (ltb f 4) (eqb s 1 || isResult last) .0 (x .1) in
+      let v = and-eq-true-iff (ltb f 8) (eqb s 1 || isResult last) .0 (x .1) in
       let p = numbers-claims .pids .number-back (getD l 1 0) (u .0) in
       let t = numbers-claims .types .number-back (getD l 2 0) (u .1) in
-      let b = bits-whole 2 f (ltb-true f 4 (v .0)) in
+      let b = bits-whole 3 f (ltb-true f 8 (v .0)) in
       three
       (λ (k : ℕ). eqb k 1 || isResult last ≡ true
       → slotBytes (slotNamed k (heldSplit l) last) (getD l 7 0) ≡ k ∷ getD l 1 0 ∷ getD l 2 0 ∷ f ∷ getD l 4 0 ∷ getD l 5 0 ∷ last ∷ getD l 7 0 ∷ [])

@@ -19,6 +19,7 @@ use Rattle.buffer.specs.Buffer.{vacant}
 use Rattle.buffer.specs.Valid.{Whole}
 use Rattle.translator.specs.declared.LowSide.{LowSide}
 use Rattle.translator.specs.Slots.{slotsIn}
+use Rattle.translator.specs.Limit.{heldBy}
 use Rattle.translator.specs.Valid.{ValidTranslator}
 use Rattle.hub.specs.declared.Identity.{Identity}
 use Rattle.hub.specs.declared.Hub.{Hub}
@@ -27,7 +28,7 @@ use Rattle.area.specs.declared.Read.{Read}
 use Rattle.taken.specs.Rows.{flat, parts, every}
 use Rattle.area.specs.Written.{portBytes, bufferBytes, headBytes, written, areaLength, writtenOver}
 use Rattle.taken.specs.Read.{portOf, bufferOf, lowOf, noPorts, noBuffers, portsOf, buffersOf, portPart, bufferPart, decoded}
-use Rattle.taken.specs.Read.{portFits, bufferFits, clashing, runs, headFits, sized, rowsFit, accepts}
+use Rattle.taken.specs.Read.{portFits, bufferFits, clashing, crowded, runs, headFits, sized, rowsFit, accepts}
 use Rattle.area.specs.Read.{refusal, readOf}
 use Rattle.area.specs.Claims.{AreaExact}
 use Rattle.taken.proofs.Rows.{All, all-map, all-take, row-each, row-used, row-spare, row-long, row-tail, parts-length, Kept, flat-length, parts-flat, every-to, every-of}
@@ -35,6 +36,7 @@ use Rattle.taken.proofs.Sized.{Counts, counts, headed, Sized, sized-to}
 use Rattle.taken.proofs.Ties.{vacant-buffers, four-long}
 use Rattle.area.proofs.Ports.{PortValid, port-again, port-size, port-to, port-of}
 use Rattle.area.proofs.Buffers.{first-eight, buffer-size, buffer-again, buffer-to, buffer-of}
+use Rattle.area.proofs.Lanes.{lanes-to, lanes-of}
 use Rattle.area.proofs.Ties.{keys-to, places-to, clashing-from, runs-to, runs-of, low-again, low-of, low-back}
 
 -- ---- the entries that are not in use
@@ -71,6 +73,7 @@ record Rows (a : List ℕ) : Type 0 where
   ports : every (portFits (eqb (getD a 5 0) 1)) 4 (getD a 0 0) (portPart a) ≡ true
   buffers : every bufferFits 72 (getD a 1 0) (bufferPart a) ≡ true
   apart : clashing (slotsIn (buffersOf (getD a 1 0) (bufferPart a))) ≡ false
+  limits : crowded (getD a 1 0) (bufferPart a) ≡ false
   running : runs (slotsIn (buffersOf (getD a 1 0) (bufferPart a))) (getD a 6 0) (getD a 7 0) ≡ true
 
 rows-to : (a : List ℕ) → rowsFit a ≡ true → Rows a
@@ -79,10 +82,12 @@ rows-to a e =
     let p : Bool = every (portFits (eqb (getD a 5 0) 1)) 4 (getD a 0 0) (portPart a) in
     let b : Bool = every bufferFits 72 (getD a 1 0) (bufferPart a) in
     let s : List Slot = slotsIn (buffersOf (getD a 1 0) (bufferPart a)) in
-    let x = and-eq-true-iff (p && b) (not (clashing s) && runs s (getD a 6 0) (getD a 7 0)) .0 e in
+    let c : Bool = crowded (getD a 1 0) (bufferPart a) in
+    let x = and-eq-true-iff (p && b) (not (clashing s) && (not c && runs s (getD a 6 0) (getD a 7 0))) .0 e in
     let y = and-eq-true-iff p b .0 (x .0) in
-    let z = and-eq-true-iff (not (clashing s)) (runs s (getD a 6 0) (getD a 7 0)) .0 (x .1) in
-    record { ports = y .0; buffers = y .1; apart = not-true (clashing s) (z .0); running = z .1 }
+    let z = and-eq-true-iff (not (clashing s)) (not c && runs s (getD a 6 0) (getD a 7 0)) .0 (x .1) in
+    let w = and-eq-true-iff (not c) (runs s (getD a 6 0) (getD a 7 0)) .0 (z .1) in
+    record { ports = y .0; buffers = y .1; apart = not-true (clashing s) (z .0); limits = not-true c (w .0); running = w .1 }
 
 module _ (a : List ℕ) (z : Sized a) (t : Rows a) where
   ports-long : length (portPart a) ≡ getD a 0 0 * 4
@@ -116,6 +121,7 @@ module _ (a : List ℕ) (z : Sized a) (t : Rows a) where
         whole = row-each vacant noBuffers vacant-buffers m bs l Whole vacant-whole (buffers-read .1);
         keys = keys-to (bs ++ drop m noBuffers) (t .apart);
         places = places-to (bs ++ drop m noBuffers) (t .apart);
+        lanes = lanes-to m (bufferPart a) (t .limits);
         running = runs-to (bs ++ drop m noBuffers) (getD a 6 0) (getD a 7 0) (t .running);
       }
 
@@ -341,9 +347,15 @@ module _ (h : Hub) (v : ValidHub h) where
   running-of : runs (slotsIn (buffersOf (getD (written h) 1 0) (bufferPart (written h)))) (getD (written h) 6 0) (getD (written h) 7 0) ≡ true
   running-of = ap (λ (s : List Slot). runs s (getD (written h) 6 0) (getD (written h) 7 0)) the-slots ∙ low-runs
 
+  limits-of : crowded (getD (written h) 1 0) (bufferPart (written h)) ≡ false
+  limits-of =
+      lanes-of (getD (written h) 1 0) (bufferPart (written h))
+      (λ z. subst (λ (n : ℕ). heldBy z (buffersOf (getD (written h) 1 0) (bufferPart (written h))) < n) (sym held-back)
+      (subst (λ (bs : List Buffer). heldBy z bs < h .translator .count) (sym again-buffers) (v .translator .lanes z)))
+
   rows-of : rowsFit (written h) ≡ true
   unfolding rowsFit
-  rows-of = rw (ports-of, buffers-of, apart-of) running-of
+  rows-of = rw (ports-of, buffers-of, apart-of, limits-of) running-of
 
   accepts-of : accepts (written h) ≡ true
   unfolding accepts

@@ -3,4 +3,5 @@ pub mod Area
 pub mod Ports
 pub mod Buffers
 pub mod Ties
+pub mod Lanes
 pub mod Exact

@@ -11,10 +11,12 @@ use Rattle.port.specs.declared.PortState.{PortState}
 use Rattle.port.specs.declared.PortState.the-variants.{NotConfigured, PoweredOff, Disconnected, Disabled, Resetting, Enabled, Suspended, Resuming}
 use Rattle.port.specs.declared.Port.{Port}
 use Rattle.port.specs.Status.{bit, byteOf}
+use Rattle.buffer.specs.declared.Lane.the-variants.{One}
 use Rattle.buffer.specs.declared.StartSplit.{StartSplit}
 use Rattle.buffer.specs.declared.Slot.{Slot}
 use Rattle.buffer.specs.declared.Slot.the-variants.{Empty, Pending, Ready, Old}
 use Rattle.buffer.specs.declared.Buffer.{Buffer}
+use Rattle.buffer.specs.Key.{sameLane}
 use Rattle.translator.specs.declared.LowSide.{LowSide}
 use Rattle.translator.specs.declared.LowSide.the-variants.{Idle, Running, Abandoned}
 use Rattle.translator.specs.Answers.{pidNumber}
@@ -76,11 +78,11 @@ portBytes p = stateByte (p .state) ∷ speedByte (p .state) ∷ ticksByte (p .st
 
 -- ---- a buffer, 72 bytes
 
--- byte 0 status, 1 PID (OUT 1, IN 9, SETUP 13), 2 transfer type (0 control, 2 bulk), 3 flags (bit 0 low speed, bit 1 toggle),
+-- byte 0 status, 1 PID (OUT 1, IN 9, SETUP 13), 2 transfer type (0 control, 2 bulk), 3 flags (bit 0 low speed, bit 1 toggle, bit 2 lane),
 -- 4 device address, 5 endpoint, 6 the last, 7 length of the payload
 abbrev pub heldBytes : ℕ → StartSplit → ℕ → ℕ → List ℕ
 heldBytes status s last n =
-    status ∷ pidNumber (s .pid) ∷ typeNumber (s .transfer) ∷ byteOf (s .lowspeed ∷ s .toggle ∷ []) ∷ s .address .0 ∷ s .endpoint ∷ last ∷ n ∷ []
+    status ∷ pidNumber (s .pid) ∷ typeNumber (s .transfer) ∷ byteOf (s .lowspeed ∷ s .toggle ∷ sameLane (s .lane) One ∷ []) ∷ s .address .0 ∷ s .endpoint ∷ last ∷ n ∷ []
 
 -- status 0 empty, 1 pending, 2 ready, 3 old. The last is the place of a pending buffer, and the result of a ready or old one.
 abbrev pub slotBytes : Slot → ℕ → List ℕ

@@ -14,6 +14,7 @@ use buffer::Buffer;
 use buffer::BufferNumber;
 use buffer::DeviceAddress;
 use buffer::DeviceResult;
+use buffer::Lane;
 use buffer::Pid;
 use buffer::Slot;
 use buffer::StartSplit;
@@ -213,6 +214,7 @@ fn held_split(b: &[u8]) -> StartSplit
     let flags = b[3];
     let half = flags / 2;
     StartSplit {
+        lane: taken::lane_in(flags),
         pid: pid_of(b[1]),
         transfer: type_of(b[2]),
         lowspeed: flags % 2 == 1,
@@ -250,10 +252,10 @@ pub fn buffer_of(b: &[u8]) -> Buffer
     }
 }
 
-fn flags_byte(lowspeed: bool, toggle: bool) -> u8
-    ensures { λ r. ⌜ r ≡ byteOf (lowspeed ∷ toggle ∷ []) ⌝ }
+fn flags_byte(lowspeed: bool, toggle: bool, one: bool) -> u8
+    ensures { λ r. ⌜ r ≡ byteOf (lowspeed ∷ toggle ∷ one ∷ []) ⌝ }
 {
-    bit_of(lowspeed) + 2 * bit_of(toggle)
+    bit_of(lowspeed) + 2 * (bit_of(toggle) + 2 * bit_of(one))
 }
 
 fn held_bytes(status: u8, split: StartSplit, last: u8, len: u8) -> [u8; 8]
@@ -261,7 +263,8 @@ fn held_bytes(status: u8, split: StartSplit, last: u8, len: u8) -> [u8; 8]
 {
     let pid = split.pid;
     let transfer = split.transfer;
-    let flags = flags_byte(split.lowspeed, split.toggle);
+    let lane = split.lane;
+    let flags = flags_byte(split.lowspeed, split.toggle, lane.same(Lane::One));
     [
         status,
         numbers::pid_number(pid),

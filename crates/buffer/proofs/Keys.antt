@@ -3,10 +3,22 @@ use mathlib.Core.Path.{_≡_, refl, sym, _∙_, ap}
 use mathlib.Core.Bool.{Bool, true, false, _&&_, and-eq-true-iff, false≢true}
 use borrow.Author.Tests.{eqb-true, eq-eqb}
 use lib.Dec.{eqb}
+use Rattle.buffer.specs.declared.Lane.{Lane}
+use Rattle.buffer.specs.declared.Lane.the-variants.{Zero, One}
 use Rattle.buffer.specs.declared.Direction.{Direction}
 use Rattle.buffer.specs.declared.Direction.the-variants as direction
 use Rattle.buffer.specs.declared.Key.{Key}
-use Rattle.buffer.specs.Key.{sameDirection, sameKey, KeyTest}
+use Rattle.buffer.specs.Key.{sameLane, sameDirection, sameKey, KeyTest}
+
+pub lane-true : (a b : Lane) → sameLane a b ≡ true → a ≡ b
+lane-true Zero Zero e = refl
+lane-true Zero One e = absurd (false≢true e)
+lane-true One Zero e = absurd (false≢true e)
+lane-true One One e = refl
+
+pub lane-refl : (a : Lane) → sameLane a a ≡ true
+lane-refl Zero = refl
+lane-refl One = refl
 
 direction-true : (a b : Direction) → sameDirection a b ≡ true → a ≡ b
 direction-true direction.Out direction.Out e = refl
@@ -21,9 +33,11 @@ direction-refl direction.In = refl
 pub same-true : (a b : Key) → sameKey a b ≡ true → a ≡ b
 unfolding sameKey
 same-true a b e =
-    let p = and-eq-true-iff (eqb (a .address .0) (b .address .0)) (eqb (a .endpoint) (b .endpoint) && sameDirection (a .direction) (b .direction)) .0 e in
+    let l = and-eq-true-iff (sameLane (a .lane) (b .lane)) (eqb (a .address .0) (b .address .0) && (eqb (a .endpoint) (b .endpoint) && sameDirection (a .direction) (b .direction))) .0 e in
+    let p = and-eq-true-iff (eqb (a .address .0) (b .address .0)) (eqb (a .endpoint) (b .endpoint) && sameDirection (a .direction) (b .direction)) .0 (l .1) in
     let q = and-eq-true-iff (eqb (a .endpoint) (b .endpoint)) (sameDirection (a .direction) (b .direction)) .0 (p .1) in
     λ i. record {
+      lane = lane-true (a .lane) (b .lane) (l .0) i;
       address = record { 0 = eqb-true (a .address .0) (b .address .0) (p .0) i };
       endpoint = eqb-true (a .endpoint) (b .endpoint) (q .0) i;
       direction = direction-true (a .direction) (b .direction) (q .1) i;
@@ -31,7 +45,7 @@ same-true a b e =
 
 pub same-refl : (a : Key) → sameKey a a ≡ true
 unfolding sameKey
-same-refl a = simp (eq-eqb (a .address .0) (a .address .0) refl, eq-eqb (a .endpoint) (a .endpoint) refl, direction-refl)
+same-refl a = simp (lane-refl, eq-eqb (a .address .0) (a .address .0) refl, eq-eqb (a .endpoint) (a .endpoint) refl, direction-refl)
 
 pub same-eq : (a b : Key) → a ≡ b → sameKey a b ≡ true
 same-eq a b e = ap (sameKey a) (sym e) ∙ same-refl a

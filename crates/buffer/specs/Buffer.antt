@@ -1,13 +1,14 @@
 -- One buffer. A reader must believe: it is empty, pending, ready or old; all but empty hold a key.
 use mathlib.Core.Bool.{Bool, true, false, cond}
 use Rattle.payload.specs.Payload.{noPayload}
+use Rattle.buffer.specs.declared.Lane.{Lane}
 use Rattle.buffer.specs.declared.Key.{Key}
 use Rattle.buffer.specs.declared.Slot.{Slot}
 use Rattle.buffer.specs.declared.Slot.the-variants.{Empty, Pending, Ready, Old}
 use Rattle.buffer.specs.declared.Buffer.{Buffer}
 use Rattle.buffer.specs.declared.Standing.{Standing}
 use Rattle.buffer.specs.declared.Standing.the-variants.{Busy, Free, Holds, Reusable}
-use Rattle.buffer.specs.Key.{keyOf, sameKey}
+use Rattle.buffer.specs.Key.{keyOf, sameLane, sameKey}
 
 -- an empty buffer
 abbrev pub vacant : Buffer
@@ -32,6 +33,20 @@ isFree Empty = true
 isFree (Pending s p) = false
 isFree (Ready s r) = false
 isFree (Old s r) = true
+
+-- it holds a key of the lane l
+abbrev pub inLane : Lane → Slot → Bool
+inLane l Empty = false
+inLane l (Pending s p) = sameLane (s .lane) l
+inLane l (Ready s r) = sameLane (s .lane) l
+inLane l (Old s r) = sameLane (s .lane) l
+
+-- pending or ready, under a key of the lane l
+abbrev pub activeIn : Lane → Slot → Bool
+activeIn l Empty = false
+activeIn l (Pending s p) = sameLane (s .lane) l
+activeIn l (Ready s r) = sameLane (s .lane) l
+activeIn l (Old s r) = false
 
 -- it holds the key k
 abbrev pub holds : Key → Slot → Bool

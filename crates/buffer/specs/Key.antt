@@ -1,8 +1,12 @@
--- Keys. A reader must believe: a key is address, endpoint and direction, and the direction follows from the PID.
+-- Keys. A reader must believe: a key is lane, address, endpoint and direction, and the direction follows from the PID.
+use Prim.Native.Nat.{ℕ}
 use mathlib.Core.Path.{_≡_}
 use mathlib.Core.Logic.{_↔_}
 use mathlib.Core.Bool.{Bool, true, false, _&&_}
 use lib.Dec.{eqb}
+use Rattle.buffer.specs.declared.Lane.{Lane}
+use Rattle.buffer.specs.declared.Lane.the-variants.{Zero, One}
+use Rattle.buffer.specs.declared.DeviceAddress.{DeviceAddress}
 use Rattle.buffer.specs.declared.Direction.{Direction}
 use Rattle.buffer.specs.declared.Direction.the-variants as direction
 use Rattle.buffer.specs.declared.Key.{Key}
@@ -16,9 +20,18 @@ directionOf pid.Out = direction.Out
 directionOf pid.In = direction.In
 directionOf pid.Setup = direction.Out
 
--- A key is address, endpoint, direction.
+-- A key is lane, address, endpoint, direction.
+abbrev pub keyWith : Lane → DeviceAddress → ℕ → Direction → Key
+keyWith z a e d = record { lane = z; address = a; endpoint = e; direction = d }
+
 abbrev pub keyOf : StartSplit → Key
-keyOf s = record { address = s .address; endpoint = s .endpoint; direction = directionOf (s .pid) }
+keyOf s = keyWith (s .lane) (s .address) (s .endpoint) (directionOf (s .pid))
+
+abbrev pub sameLane : Lane → Lane → Bool
+sameLane Zero Zero = true
+sameLane Zero One = false
+sameLane One Zero = false
+sameLane One One = true
 
 abbrev pub sameDirection : Direction → Direction → Bool
 sameDirection direction.Out direction.Out = true
@@ -28,7 +41,9 @@ sameDirection direction.In direction.In = true
 
 -- the one test of keys
 unfoldable pub sameKey : Key → Key → Bool
-sameKey a b = eqb (a .address .0) (b .address .0) && (eqb (a .endpoint) (b .endpoint) && sameDirection (a .direction) (b .direction))
+sameKey a b =
+    sameLane (a .lane) (b .lane)
+    && (eqb (a .address .0) (b .address .0) && (eqb (a .endpoint) (b .endpoint) && sameDirection (a .direction) (b .direction)))
 
 -- it holds exactly if the keys are equal
 abbrev pub KeyTest : Type 0

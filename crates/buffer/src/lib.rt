@@ -1,8 +1,8 @@
 // Keys, start-splits, results, and one buffer of the transaction translator, by value.
 ghost use mathlib.Core.Path.{_≡_};
-ghost use Rattle.buffer.specs.Key.{directionOf, keyOf, sameDirection, sameKey, KeyTest};
+ghost use Rattle.buffer.specs.Key.{directionOf, keyWith, keyOf, sameLane, sameDirection, sameKey, KeyTest};
 ghost use Rattle.buffer.specs.Lengths.{typeFits, numbersFit, startLength, startFits, isData, resultLength, suits};
-ghost use Rattle.buffer.specs.Buffer.{vacant, standing};
+ghost use Rattle.buffer.specs.Buffer.{vacant, inLane, activeIn, holds, standing};
 use payload::Payload;
 
 // The number of a buffer, counted from 0. No port number and no device address can stand for it.
@@ -11,6 +11,12 @@ pub struct BufferNumber(pub u8);
 // The address of a device on the bus, 0 to 127.
 pub struct DeviceAddress(pub u8);
 
+// The way in of one of the two computers (an upstream facing port, in USB's words).
+pub enum Lane {
+    Zero,
+    One,
+}
+
 pub enum Direction {
     Out,
     In,
@@ -18,6 +24,7 @@ pub enum Direction {
 
 // What a buffer is held under.
 pub struct Key {
+    pub lane: Lane,
     pub address: DeviceAddress,
     pub endpoint: u8,
     pub direction: Direction,
@@ -37,6 +44,7 @@ pub enum TransferType {
 
 // What a start-split asks for, its payload apart. The key follows from it, so that key and PID agree.
 pub struct StartSplit {
+    pub lane: Lane,
     pub pid: Pid,
     pub transfer: TransferType,
     pub lowspeed: bool,
@@ -93,6 +101,23 @@ impl Pid {
     }
 }
 
+impl Lane {
+    pub fn same(self, other: Lane) -> bool
+        ensures { λ r. ⌜ r ≡ sameLane self other ⌝ }
+    {
+        match self {
+            Lane::Zero => match other {
+                Lane::Zero => true,
+                Lane::One => false,
+            },
+            Lane::One => match other {
+                Lane::Zero => false,
+                Lane::One => true,
+            },
+        }
+    }
+}
+
 impl Direction {
     fn same(self, other: Direction) -> bool
         ensures { λ r. ⌜ r ≡ sameDirection self other ⌝ }
@@ -111,15 +136,32 @@ impl Direction {
 }
 
 impl Key {
+    // The one place where a key is made.
+    pub fn new(lane: Lane, address: DeviceAddress, endpoint: u8, direction: Direction) -> Key
+        ensures { λ r. ⌜ r ≡ keyWith lane address endpoint direction ⌝ }
+    {
+        Key {
+            lane,
+            address,
+            endpoint,
+            direction,
+        }
+    }
+
     // The one test of keys.
     pub fn same(self, other: Key) -> bool
         ensures { λ r. ⌜ r ≡ sameKey self other ⌝ }
     {
+        let here = self.lane;
+        let there = other.lane;
         let mine = self.direction;
         let theirs = other.direction;
         logic::both(
-            self.address.0 == other.address.0,
-            logic::both(self.endpoint == other.endpoint, mine.same(theirs)),
+            here.same(there),
+            logic::both(
+                self.address.0 == other.address.0,
+                logic::both(self.endpoint == other.endpoint, mine.same(theirs)),
+            ),
         )
     }
 }
@@ -129,13 +171,17 @@ impl StartSplit {
     pub fn key(self) -> Key
         ensures { λ r. ⌜ r ≡ keyOf self ⌝ }
     {
+        let lane = self.lane;
         let pid = self.pid;
         let address = self.address;
-        Key {
-            address,
-            endpoint: self.endpoint,
-            direction: pid.direction(),
-        }
+        Key::new(lane, address, self.endpoint, pid.direction())
+    }
+
+    pub fn is_from(self, lane: Lane) -> bool
+        ensures { λ r. ⌜ r ≡ sameLane (self .lane) lane ⌝ }
+    {
+        let mine = self.lane;
+        mine.same(lane)
     }
 
     pub fn is_for(self, key: Key) -> bool
@@ -261,6 +307,41 @@ impl Buffer {
 }
 
 impl Slot {
+    // Whether it is held under a key of the lane.
+    pub fn is_in(self, lane: Lane) -> bool
+        ensures { λ r. ⌜ r ≡ inLane lane self ⌝ }
+    {
+        match self {
+            Slot::Empty => false,
+            Slot::Pending(split, _) => split.is_from(lane),
+            Slot::Ready(split, _) => split.is_from(lane),
+            Slot::Old(split, _) => split.is_from(lane),
+        }
+    }
+
+    // Whether it is pending or ready under a key of the lane.
+    pub fn is_active_in(self, lane: Lane) -> bool
+        ensures { λ r. ⌜ r ≡ activeIn lane self ⌝ }
+    {
+        match self {
+            Slot::Empty => false,
+            Slot::Pending(split, _) => split.is_from(lane),
+            Slot::Ready(split, _) => split.is_from(lane),
+            Slot::Old(_, _) => false,
+        }
+    }
+
+    pub fn holds(self, key: Key) -> bool
+        ensures { λ r. ⌜ r ≡ holds key self ⌝ }
+    {
+        match self {
+            Slot::Empty => false,
+            Slot::Pending(split, _) => split.is_for(key),
+            Slot::Ready(split, _) => split.is_for(key),
+            Slot::Old(split, _) => split.is_for(key),
+        }
+    }
+
     pub fn standing(self, key: Key) -> Standing
         ensures { λ r. ⌜ r ≡ standing key self ⌝ }
     {

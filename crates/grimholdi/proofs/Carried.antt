@@ -1,5 +1,5 @@
 -- Runs of entries are runs of the rules, so that what holds of these holds of those. Assumes nothing.
-use Prim.Native.Nat.{ℕ, _≤_}
+use Prim.Native.Nat.{ℕ, _+_, _<_, _≤_}
 use native.Mathlib.Omega.{arith}
 use mathlib.Core.Path.{_≡_, refl, sym, _∙_, ap, ap₂, subst}
 use mathlib.Core.Bool.{Bool, true, false, cond}
@@ -19,15 +19,21 @@ use Rattle.hub.proofs.Claimed.{hub-claims}
 use Rattle.runs.specs.History.{Event}
 use Rattle.runs.specs.Machine.{Machine, newHubOf, rules, runFrom, run, afterFrom}
 use Rattle.runs.specs.Demand2.{Demand2}
-use Rattle.runs.specs.Demand3.{SameCalls, SameAnswers, AllExplained, Demand3}
+use Rattle.runs.specs.Demand3.{Marks, onlyKey, everyKeyOf, SameCalls, SameAnswers, Hidden, AllExplained, Demand3}
 use Rattle.runs.specs.Order.{AllOrdered, LaunchOrder}
 use Rattle.runs.specs.ErrorReports.{AllShow, ErrorReports}
+use Rattle.runs.specs.Tally.{tallyOf, activeIn, past, TallyHolds}
+use Rattle.runs.specs.Share.{holding, AllShared, LaneShare}
 use Rattle.runs.specs.Refusals.{Refusal, numberOf}
 use Rattle.runs.proofs.Theorems.{demand-3}
 use Rattle.runs.proofs.LineSteps.{launch-order}
 use Rattle.runs.proofs.Reporting.{error-reports}
+use Rattle.runs.proofs.Reaching.{reached}
+use Rattle.runs.proofs.Tallied.{tally-holds}
+use Rattle.runs.proofs.Sharing.{lane-share}
 use Rattle.runs.proofs.Refusing.{refusals}
 use Rattle.area.specs.Written.{written}
+use Rattle.area.specs.declared.Read.{Read}
 use Rattle.area.specs.Read.{readOf}
 use Rattle.area.proofs.Exact.{area-exact}
 use Rattle.grimholdi.specs.Entry.{Gave, gaveBy}
@@ -78,10 +84,10 @@ module _ (h : Hub) (v : ValidHub h) where
 
   fits-reply : (x : Asked) → length (step h (callOf x) .answer .bytes) ≤ length (replyOf x)
   unfolding roomy served
-  fits-reply (control s r) = room-enough (Control s (length r)) r refl
-  fits-reply (poll r) = room-enough (Poll (length r)) r refl
-  fits-reply (startSplit p t f g a e l) = none-fits _ [] (none-given (Start p t f g a e l) refl)
-  fits-reply (completeSplit a e d r) = room-enough (Complete a e d (length r)) r refl
+  fits-reply (control z s r) = room-enough (Control z s (length r)) r refl
+  fits-reply (poll z r) = room-enough (Poll z (length r)) r refl
+  fits-reply (startSplit z p t f g a e l) = none-fits _ [] (none-given (Start z p t f g a e l) refl)
+  fits-reply (completeSplit z a e d r) = room-enough (Complete z a e d (length r)) r refl
   fits-reply (launch r) = room-enough (Launch (length r)) r refl
   fits-reply (deliver n l) = none-fits _ [] (none-given (Deliver n l) refl)
   fits-reply (lineEvent e n) = none-fits _ [] (none-given (LineEvent e n) refl)
@@ -99,6 +105,7 @@ module _ (h : Hub) (v : ValidHub h) where
         number = a .number;
         pid = a .pid;
         transfer = a .transfer;
+        lane = a .lane;
         address = a .address;
         endpoint = a .endpoint;
         direction = a .direction;
@@ -155,15 +162,20 @@ module _ (w : Machine) (d : Demand2 w) where
   abbrev ruled-run : w .Made → List (w .Asked) → List Event
   ruled-run n cs = run rules (w .numbers n) (map (w .call) cs)
 
+  hidden : (k : Marks) → Hidden w k
+  hidden k n cs ds s =
+      subst (λ (x : List Event). SameAnswers k x (run w n ds)) (sym (d n cs))
+      (subst (λ (y : List Event). SameAnswers k (ruled-run n cs) y) (sym (d n ds))
+      (demand-3 .set-hidden k (w .numbers n) (map (w .call) cs) (map (w .call) ds)
+      (subst (λ (y : List Event). SameCalls k [] (ruled-run n cs) y) (d n ds)
+      (subst (λ (x : List Event). SameCalls k [] x (run w n ds)) (d n cs) s))))
+
   carried-3 : Demand3 w
   carried-3 =
       record {
-        mark-hidden = λ k n cs ds s.
-            subst (λ (x : List Event). SameAnswers k x (run w n ds)) (sym (d n cs))
-            (subst (λ (y : List Event). SameAnswers k (ruled-run n cs) y) (sym (d n ds))
-            (demand-3 .mark-hidden k (w .numbers n) (map (w .call) cs) (map (w .call) ds)
-            (subst (λ (y : List Event). SameCalls k [] (ruled-run n cs) y) (d n ds)
-            (subst (λ (x : List Event). SameCalls k [] x (run w n ds)) (d n cs) s))));
+        set-hidden = hidden;
+        mark-hidden = λ m. hidden (onlyKey m);
+        lane-hidden = λ z. hidden (everyKeyOf z);
         data-explained = λ n cs. subst (AllExplained []) (sym (d n cs)) (demand-3 .data-explained (w .numbers n) (map (w .call) cs));
       }
 
@@ -172,6 +184,26 @@ module _ (w : Machine) (d : Demand2 w) where
 
   carried-reports : ErrorReports w
   carried-reports n cs = subst (AllShow []) (sym (d n cs)) (error-reports (w .numbers n) (map (w .call) cs))
+
+  carried-share : LaneShare w
+  carried-share =
+      record {
+        few = λ z n cs. subst (λ (es : List Event). holding z (past [] es) < w .numbers n .buffers) (sym (d n cs)) (lane-share .few z (w .numbers n) (map (w .call) cs));
+        served = λ n cs. subst (AllShared []) (sym (d n cs)) (lane-share .served (w .numbers n) (map (w .call) cs));
+      }
+
+-- the hub that is read from the area is the one that the rules leave
+read-reached : (m : NewArea) (xs : List Asked) → readOf (afterFrom entries (filled m) xs) .hub ≡ afterFrom rules (newHubOf (m .numbers)) (map callOf xs)
+read-reached m xs =
+    ap (λ (a : List ℕ). readOf a .hub) (area-follows m xs)
+    ∙ ap (λ (r : Read). r .hub) (area-exact .again (afterFrom rules (newHubOf (m .numbers)) (map callOf xs)) (reached (m .numbers) (map callOf xs)))
+
+carried-tally : TallyHolds entries (λ a. activeIn (readOf a .hub))
+carried-tally m xs =
+    subst (λ (h : Hub). tallyOf (past [] (run entries m xs)) .stored ≡ tallyOf (past [] (run entries m xs)) .answered + tallyOf (past [] (run entries m xs)) .emptied + activeIn h)
+    (sym (read-reached m xs))
+    (subst (λ (es : List Event). tallyOf (past [] es) .stored ≡ tallyOf (past [] es) .answered + tallyOf (past [] es) .emptied + activeIn (afterFrom rules (newHubOf (m .numbers)) (map callOf xs)))
+    (sym (demand-2 m xs)) (tally-holds (m .numbers) (map callOf xs)))
 
 -- ---- refusals
 
@@ -227,4 +259,6 @@ entry-claims =
       demand-3 = carried-3 entries demand-2;
       launch-order = carried-order entries demand-2;
       error-reports = carried-reports entries demand-2;
+      lane-share = carried-share entries demand-2;
+      tally-holds = carried-tally;
     }

@@ -34,8 +34,8 @@ use Rattle.grimholdi.specs.declared.Answer.{Answer}
 use Rattle.grimholdi.specs.Entry.{plainSaid, resultSaid}
 use Rattle.grimholdi.proofs.Taken.{hubIn, valid, form, head-is, configured-is, slots-are, buffer-is, early, ruled, Gives, Unchanged, moves, stays}
 
-module _ (a : List ℕ) (ok : accepts a ≡ true) (hd : Head) (e : hd ≡ headAt a) (address endpoint direction : ℕ) {w : Bool}
-    (ew : w ≡ keyNamed address endpoint direction) (r : List ℕ) {n : ℕ} (g : n ≡ firstRefusal w (leb 64 (length r)) (hd .configured) true) where
+module _ (a : List ℕ) (ok : accepts a ≡ true) (hd : Head) (e : hd ≡ headAt a) (lane address endpoint direction : ℕ) {w : Bool}
+    (ew : w ≡ keyNamed lane address endpoint direction) (r : List ℕ) {n : ℕ} (g : n ≡ firstRefusal w (leb 64 (length r)) (hd .configured) true) where
   abbrev h : Hub
   h = hubIn a ok
 
@@ -43,13 +43,13 @@ module _ (a : List ℕ) (ok : accepts a ≡ true) (hd : Head) (e : hd ≡ headAt
   t = h .translator
 
   abbrev call : Call
-  call = Complete address endpoint direction (length r)
+  call = Complete lane address endpoint direction (length r)
 
   pub complete-refused : ¬ (n ≡ 0) → (x : Answer) → x ≡ plainSaid n → Unchanged a call r x
   unfolding within roomy heard
   complete-refused z x ex = stays a ok call r n (early a ok call g ew refl (configured-is a ok hd e) z) x ex
 
-  module _ (z : n ≡ 0) (s : List Slot) (es : s ≡ slotsAt (hd .ports) a) (k : Key) (ek : k ≡ keyFrom address endpoint direction) {f : Found}
+  module _ (z : n ≡ 0) (s : List Slot) (es : s ≡ slotsAt (hd .ports) a) (k : Key) (ek : k ≡ keyFrom lane address endpoint direction) {f : Found}
       (ef : f ≡ find (holds k) (take (hd .count) (bare s))) where
     by-found : (b : Found) → f ≡ b → step h call ≡ completedAs h (completeAt t b)
     unfolding within roomy heard fitting served completeSplit

@@ -12,12 +12,12 @@ use Rattle.buffer.specs.Key.{keyOf}
 use Rattle.buffer.specs.Lengths.{startFits}
 use Rattle.translator.specs.declared.Translator.{Translator}
 use Rattle.translator.specs.declared.Choice.{Choice}
-use Rattle.translator.specs.declared.Choice.the-variants.{NoRoom, Held, Reused, Took}
+use Rattle.translator.specs.declared.Choice.the-variants.{NoRoom, LimitReached, Held, Reused, Took}
 use Rattle.translator.specs.declared.StartAnswer.the-variants.{Outside}
 use Rattle.translator.specs.Slots.{bare, slotsIn}
-use Rattle.translator.specs.Search.{chosen}
+use Rattle.translator.specs.Limit.{permitted}
 use Rattle.translator.specs.StartSplit.{stored, startBy, startSplit}
-use Rattle.translator.proofs.Bare.{chosen-bare}
+use Rattle.translator.proofs.Bare.{permitted-bare}
 use Rattle.numbers.specs.Split.{splitNamed, splitFrom}
 use Rattle.hub.specs.declared.Hub.{Hub}
 use Rattle.hub.specs.Hub.{withTranslator}
@@ -34,9 +34,9 @@ use Rattle.grimholdi.specs.declared.Answer.{Answer}
 use Rattle.grimholdi.specs.Entry.{plainSaid}
 use Rattle.grimholdi.proofs.Taken.{hubIn, valid, form, head-is, configured-is, slots-are, early, ruled, all-held, Leaves, leaves, rests}
 
-module _ (a : List ℕ) (ok : accepts a ≡ true) (hd : Head) (e : hd ≡ headAt a) (pid transfer lowspeed toggle address endpoint : ℕ) (l : List ℕ)
-    (k : StartSplit) (ek : k ≡ splitFrom pid transfer lowspeed toggle address endpoint) {w : Bool}
-    (ew : w ≡ (splitNamed pid transfer lowspeed toggle address endpoint && startFits k (length l))) {n : ℕ}
+module _ (a : List ℕ) (ok : accepts a ≡ true) (hd : Head) (e : hd ≡ headAt a) (lane pid transfer lowspeed toggle address endpoint : ℕ) (l : List ℕ)
+    (k : StartSplit) (ek : k ≡ splitFrom lane pid transfer lowspeed toggle address endpoint) {w : Bool}
+    (ew : w ≡ (splitNamed lane pid transfer lowspeed toggle address endpoint && startFits k (length l))) {n : ℕ}
     (g : n ≡ firstRefusal w true (hd .configured) true) where
   abbrev h : Hub
   h = hubIn a ok
@@ -45,21 +45,21 @@ module _ (a : List ℕ) (ok : accepts a ≡ true) (hd : Head) (e : hd ≡ headAt
   t = h .translator
 
   abbrev call : Call
-  call = Start pid transfer lowspeed toggle address endpoint l
+  call = Start lane pid transfer lowspeed toggle address endpoint l
 
   within-is : w ≡ within h call
   unfolding within
-  within-is = ew ∙ ap (λ (x : StartSplit). splitNamed pid transfer lowspeed toggle address endpoint && startFits x (length l)) ek
+  within-is = ew ∙ ap (λ (x : StartSplit). splitNamed lane pid transfer lowspeed toggle address endpoint && startFits x (length l)) ek
 
   pub start-refused : ¬ (n ≡ 0) → (x : Answer) → x ≡ plainSaid n → Leaves a call x a
   unfolding roomy heard
   start-refused z x ex = rests a ok call n (early a ok call g within-is refl (configured-is a ok hd e) z) x ex
 
   module _ (z : n ≡ 0) (s : List Slot) (es : s ≡ slotsAt (hd .ports) a) (y : Key) (ey : y ≡ keyOf k) {f : Choice}
-      (ef : f ≡ chosen y (take (hd .count) (bare s))) where
+      (ef : f ≡ permitted (hd .count) y (take (hd .count) (bare s))) where
     fits : startFits k (length l) ≡ true
     fits =
-        right (splitNamed pid transfer lowspeed toggle address endpoint) (startFits k (length l))
+        right (splitNamed lane pid transfer lowspeed toggle address endpoint) (startFits k (length l))
         (sym ew ∙ all-held w true (hd .configured) (sym z ∙ g))
 
     by-choice : (b : Choice) → f ≡ b → step h call ≡ startedAs h (startBy t k l b)
@@ -67,17 +67,20 @@ module _ (a : List ℕ) (ok : accepts a ≡ true) (hd : Head) (e : hd ≡ headAt
     by-choice b i =
         ruled a ok call g within-is refl (configured-is a ok hd e) z (λ p. absurd (true≢false p))
         ∙ ap (λ (x : StartSplit). startedAs h (startSplit t x l)) (sym ek)
-        ∙ ap (λ (x : Bool). startedAs h (cond x (startBy t k l (chosen (keyOf k) (take (t .count) (t .buffers)))) (record { next = t; answer = Outside }))) fits
+        ∙ ap (λ (x : Bool). startedAs h (cond x (startBy t k l (permitted (t .count) (keyOf k) (take (t .count) (t .buffers)))) (record { next = t; answer = Outside }))) fits
         ∙ ap (λ (x : Choice). startedAs h (startBy t k l x))
-        (ap (λ (x : Key). chosen x (take (t .count) (t .buffers))) (sym ey)
-        ∙ sym (chosen-bare y (t .count) (t .buffers))
-        ∙ ap (λ (x : List Slot). chosen y (take (t .count) (bare x))) (sym (slots-are a ok hd e s es))
-        ∙ ap (λ (x : Head). chosen y (take (x .count) (bare s))) (sym (head-is a ok hd e))
+        (ap (λ (x : Key). permitted (t .count) x (take (t .count) (t .buffers))) (sym ey)
+        ∙ sym (permitted-bare (t .count) y (t .count) (t .buffers))
+        ∙ ap (λ (x : List Slot). permitted (t .count) y (take (t .count) (bare x))) (sym (slots-are a ok hd e s es))
+        ∙ ap (λ (x : Head). permitted (x .count) y (take (x .count) (bare s))) (sym (head-is a ok hd e))
         ∙ sym ef
         ∙ i)
 
     pub no-room : f ≡ NoRoom → (x : Answer) → x ≡ plainSaid 3 → Leaves a call x a
     no-room i x ex = rests a ok call 3 (by-choice NoRoom i) x ex
+
+    pub limit : f ≡ LimitReached → (x : Answer) → x ≡ plainSaid 3 → Leaves a call x a
+    limit i x ex = rests a ok call 3 (by-choice LimitReached i) x ex
 
     pub held : {m : BufferNumber} → f ≡ Held m → (x : Answer) → x ≡ plainSaid 0 → Leaves a call x a
     held i x ex = rests a ok call 0 (by-choice _ i) x ex

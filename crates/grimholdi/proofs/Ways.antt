@@ -75,9 +75,9 @@ module _ (a : List ℕ) (q : Read) (e : q ≡ readOf a) (ok : q .ok ≡ true) wh
         let kept = taken-hub .1 ∙ ap written (sym n) ∙ ap (λ (g : Gave). g .area) (sym (entry-taken c r)) in
         (answers x (p .0), (kept, replies t (p .1)))
 
-pub poll-stays : (h : Hub) (room : ℕ) → step h (Poll room) .next ≡ h
+pub poll-stays : (h : Hub) (z room : ℕ) → step h (Poll z room) .next ≡ h
 unfolding served polled
-poll-stays h room = by-step h (Poll room) (λ (o : Outcome). o .next ≡ h) (λ n. refl) (λ w f. go (eqb (bitmapOf (h .identity .ports) (h .ports)) 0))
+poll-stays h z room = by-step h (Poll z room) (λ (o : Outcome). o .next ≡ h) (λ n. refl) (λ w f. go (eqb (bitmapOf (h .identity .ports) (h .ports)) 0))
   where
     go : (b : Bool) → cond {A = Outcome} b (refuse 3 h) (gives h (bitmapOf (h .identity .ports) (h .ports) ∷ [])) .next ≡ h
     go true = refl

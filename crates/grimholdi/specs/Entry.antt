@@ -25,6 +25,7 @@ saidOf a =
       length = length (a .bytes);
       pid = a .pid;
       transfer = a .transfer;
+      lane = a .lane;
       address = a .address;
       endpoint = a .endpoint;
       direction = a .direction;
@@ -34,7 +35,7 @@ saidOf a =
 
 -- a number alone
 abbrev pub plainSaid : ℕ → Answer
-plainSaid n = record { number = n; length = 0; pid = 0; transfer = 0; address = 0; endpoint = 0; direction = 0; lowspeed = 0; toggle = 0 }
+plainSaid n = record { number = n; length = 0; pid = 0; transfer = 0; lane = 0; address = 0; endpoint = 0; direction = 0; lowspeed = 0; toggle = 0 }
 
 -- a result with its bytes: data, or the device's handshake
 abbrev pub resultSaid : DeviceResult → List ℕ → Answer

@@ -15,16 +15,19 @@ use Rattle.runs.specs.Demand2.{Demand2, reachedBy}
 use Rattle.runs.specs.Demand3.{Demand3}
 use Rattle.runs.specs.Order.{LaunchOrder}
 use Rattle.runs.specs.ErrorReports.{ErrorReports}
+use Rattle.runs.specs.Tally.{activeIn, TallyHolds}
+use Rattle.runs.specs.Share.{LaneShare}
 use Rattle.runs.specs.Refusals.{Refusal, numberOf, Due}
 use Rattle.area.specs.Written.{written, areaLength}
+use Rattle.area.specs.Read.{readOf}
 use Rattle.grimholdi.specs.Entry.{Gave, refused, entry, newEntry}
 
 -- what C hands in beside the area: numbers, lent bytes, and the reply space as it lies in memory
 pub data Asked : Type 0 where
-  control : (setup reply : List ℕ) → Asked
-  poll : (reply : List ℕ) → Asked
-  startSplit : (pid transfer lowspeed toggle address endpoint : ℕ) (payload : List ℕ) → Asked
-  completeSplit : (address endpoint direction : ℕ) (reply : List ℕ) → Asked
+  control : (lane : ℕ) (setup reply : List ℕ) → Asked
+  poll : (lane : ℕ) (reply : List ℕ) → Asked
+  startSplit : (lane pid transfer lowspeed toggle address endpoint : ℕ) (payload : List ℕ) → Asked
+  completeSplit : (lane address endpoint direction : ℕ) (reply : List ℕ) → Asked
   launch : (reply : List ℕ) → Asked
   deliver : (result : ℕ) (payload : List ℕ) → Asked
   lineEvent : (event port : ℕ) → Asked
@@ -32,10 +35,10 @@ pub data Asked : Type 0 where
   busReset : Asked
 
 abbrev pub callOf : Asked → Call
-callOf (control s r) = Control s (length r)
-callOf (poll r) = Poll (length r)
-callOf (startSplit p t f g a e l) = Start p t f g a e l
-callOf (completeSplit a e d r) = Complete a e d (length r)
+callOf (control z s r) = Control z s (length r)
+callOf (poll z r) = Poll z (length r)
+callOf (startSplit z p t f g a e l) = Start z p t f g a e l
+callOf (completeSplit z a e d r) = Complete z a e d (length r)
 callOf (launch r) = Launch (length r)
 callOf (deliver n l) = Deliver n l
 callOf (lineEvent e n) = Event e n
@@ -44,10 +47,10 @@ callOf busReset = BusReset
 
 -- none where the call takes none
 abbrev pub replyOf : Asked → List ℕ
-replyOf (control s r) = r
-replyOf (poll r) = r
-replyOf (startSplit p t f g a e l) = []
-replyOf (completeSplit a e d r) = r
+replyOf (control z s r) = r
+replyOf (poll z r) = r
+replyOf (startSplit z p t f g a e l) = []
+replyOf (completeSplit z a e d r) = r
 replyOf (launch r) = r
 replyOf (deliver n l) = []
 replyOf (lineEvent e n) = []
@@ -64,6 +67,7 @@ seen g =
       number = g .answer .number;
       pid = g .answer .pid;
       transfer = g .answer .transfer;
+      lane = g .answer .lane;
       address = g .answer .address;
       endpoint = g .answer .endpoint;
       direction = g .answer .direction;
@@ -119,3 +123,6 @@ pub record EntryClaims : Type 0 where
   pub demand-3 : Demand3 entries
   pub launch-order : LaunchOrder entries
   pub error-reports : ErrorReports entries
+  pub lane-share : LaneShare entries
+  -- pending or ready now: of the hub that is read from the area
+  pub tally-holds : TallyHolds entries (λ a. activeIn (readOf a .hub))

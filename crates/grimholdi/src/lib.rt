@@ -37,6 +37,7 @@ pub struct Answer {
     pub length: u8,
     pub pid: u8,
     pub transfer: u8,
+    pub lane: u8,
     pub address: u8,
     pub endpoint: u8,
     pub direction: u8,
@@ -53,6 +54,7 @@ fn plain_answer(number: u8) -> Answer
         length: 0,
         pid: 0,
         transfer: 0,
+        lane: 0,
         address: 0,
         endpoint: 0,
         direction: 0,
@@ -72,6 +74,7 @@ fn answer_of(o: Stepped) -> Answer
         length: payload.size(),
         pid: reply.pid,
         transfer: reply.transfer,
+        lane: reply.lane,
         address: reply.address,
         endpoint: reply.endpoint,
         direction: reply.direction,
@@ -119,11 +122,13 @@ fn launch_answer(split: StartSplit, payload: Payload) -> Answer
 {
     let pid = split.pid;
     let transfer = split.transfer;
+    let lane = split.lane;
     Answer {
         number: 1,
         length: payload.size(),
         pid: numbers::pid_number(pid),
         transfer: numbers::type_number(transfer),
+        lane: numbers::lane_number(lane),
         address: split.address.0,
         endpoint: split.endpoint,
         direction: numbers::direction_number(pid.direction()),
@@ -240,6 +245,7 @@ fn give_result(result: DeviceResult, payload: Payload, reply: &mut [u8]) -> Answ
         length: data.size(),
         pid: numbers::complete_pid(result),
         transfer: 0,
+        lane: 0,
         address: 0,
         endpoint: 0,
         direction: 0,
@@ -268,24 +274,25 @@ fn put_old(
 
 fn complete_split(
     area: &mut [u8],
+    lane: u32,
     address: u32,
     endpoint: u32,
     direction: u32,
     reply: &mut [u8],
 ) -> Answer
     requires { ⌜ accepts (now area) ≡ true ⌝ }
-    ensures { λ r. ⌜ r ≡ entry (now (area .entry)) (Complete address endpoint direction (length (now (reply .entry)))) (now (reply .entry)) .answer ⌝ }
-    ensures area { λ _. ⌜ now (area .exit) ≡ entry (now (area .entry)) (Complete address endpoint direction (length (now (reply .entry)))) (now (reply .entry)) .area ⌝ }
-    ensures reply { λ _. ⌜ now (reply .exit) ≡ entry (now (area .entry)) (Complete address endpoint direction (length (now (reply .entry)))) (now (reply .entry)) .reply ⌝ }
+    ensures { λ r. ⌜ r ≡ entry (now (area .entry)) (Complete lane address endpoint direction (length (now (reply .entry)))) (now (reply .entry)) .answer ⌝ }
+    ensures area { λ _. ⌜ now (area .exit) ≡ entry (now (area .entry)) (Complete lane address endpoint direction (length (now (reply .entry)))) (now (reply .entry)) .area ⌝ }
+    ensures reply { λ _. ⌜ now (reply .exit) ≡ entry (now (area .entry)) (Complete lane address endpoint direction (length (now (reply .entry)))) (now (reply .entry)) .reply ⌝ }
 {
-    let named = numbers::key_named(address, endpoint, direction);
+    let named = numbers::key_named(lane, address, endpoint, direction);
     let head = parts::head_at(area);
     let refusal = hub::first_refusal(named, 64 <= reply.len(), head.configured, true);
     if refusal != 0 {
         return plain_answer(refusal);
     }
     let slots = parts::slots_at(area, head.ports);
-    let key = numbers::key_of(address, endpoint, direction);
+    let key = numbers::key_of(lane, address, endpoint, direction);
     match translator::holder(slots, head.count, key) {
         Found::Nowhere => plain_answer(2),
         Found::At(n) => {
@@ -307,6 +314,7 @@ fn complete_split(
 
 fn start_split(
     area: &mut [u8],
+    lane: u32,
     pid: u32,
     transfer: u32,
     lowspeed: u32,
@@ -316,11 +324,11 @@ fn start_split(
     payload: &[u8],
 ) -> Answer
     requires { ⌜ accepts (now area) ≡ true ⌝ }
-    ensures { λ r. ⌜ r ≡ entry (now (area .entry)) (Start pid transfer lowspeed toggle address endpoint (now (payload .entry))) [] .answer ⌝ }
-    ensures area { λ _. ⌜ now (area .exit) ≡ entry (now (area .entry)) (Start pid transfer lowspeed toggle address endpoint (now (payload .entry))) [] .area ⌝ }
+    ensures { λ r. ⌜ r ≡ entry (now (area .entry)) (Start lane pid transfer lowspeed toggle address endpoint (now (payload .entry))) [] .answer ⌝ }
+    ensures area { λ _. ⌜ now (area .exit) ≡ entry (now (area .entry)) (Start lane pid transfer lowspeed toggle address endpoint (now (payload .entry))) [] .area ⌝ }
 {
-    let split = numbers::split_of(pid, transfer, lowspeed, toggle, address, endpoint);
-    let named = numbers::split_named(pid, transfer, lowspeed, toggle, address, endpoint);
+    let split = numbers::split_of(lane, pid, transfer, lowspeed, toggle, address, endpoint);
+    let named = numbers::split_named(lane, pid, transfer, lowspeed, toggle, address, endpoint);
     let within = logic::both(named, split.fits(payload.len()));
     let head = parts::head_at(area);
     let refusal = hub::first_refusal(within, true, head.configured, true);
@@ -330,6 +338,7 @@ fn start_split(
     let slots = parts::slots_at(area, head.ports);
     match translator::choose(slots, head.count, split.key()) {
         Choice::NoRoom => plain_answer(3),
+        Choice::LimitReached => plain_answer(3),
         Choice::Held(_) => plain_answer(0),
         Choice::Reused(n) => {
             parts::store(slots, head.ports, n, split, payload, area);
@@ -378,30 +387,35 @@ pub extern "C" fn grimholdi_new(
 }
 
 #[no_mangle]
-pub extern "C" fn grimholdi_control(area: &mut [u8], setup: &[u8], reply: &mut [u8]) -> Answer
-    ensures { λ r. ⌜ r ≡ entry (now (area .entry)) (Control (now (setup .entry)) (length (now (reply .entry)))) (now (reply .entry)) .answer ⌝ }
-    ensures area { λ _. ⌜ now (area .exit) ≡ entry (now (area .entry)) (Control (now (setup .entry)) (length (now (reply .entry)))) (now (reply .entry)) .area ⌝ }
-    ensures reply { λ _. ⌜ now (reply .exit) ≡ entry (now (area .entry)) (Control (now (setup .entry)) (length (now (reply .entry)))) (now (reply .entry)) .reply ⌝ }
+pub extern "C" fn grimholdi_control(
+    area: &mut [u8],
+    lane: u32,
+    setup: &[u8],
+    reply: &mut [u8],
+) -> Answer
+    ensures { λ r. ⌜ r ≡ entry (now (area .entry)) (Control lane (now (setup .entry)) (length (now (reply .entry)))) (now (reply .entry)) .answer ⌝ }
+    ensures area { λ _. ⌜ now (area .exit) ≡ entry (now (area .entry)) (Control lane (now (setup .entry)) (length (now (reply .entry)))) (now (reply .entry)) .area ⌝ }
+    ensures reply { λ _. ⌜ now (reply .exit) ≡ entry (now (area .entry)) (Control lane (now (setup .entry)) (length (now (reply .entry)))) (now (reply .entry)) .reply ⌝ }
 {
     let read = area::read_area(area);
     if read.ok {
         let hub = read.hub;
-        return settle_reply(hub.control(setup, reply.len()), area, reply);
+        return settle_reply(hub.control(lane, setup, reply.len()), area, reply);
     }
     plain_answer(6)
 }
 
 // A poll changes no hub, so nothing is written to the area.
 #[no_mangle]
-pub extern "C" fn grimholdi_poll(area: &mut [u8], reply: &mut [u8]) -> Answer
-    ensures { λ r. ⌜ r ≡ entry (now (area .entry)) (Poll (length (now (reply .entry)))) (now (reply .entry)) .answer ⌝ }
-    ensures area { λ _. ⌜ now (area .exit) ≡ entry (now (area .entry)) (Poll (length (now (reply .entry)))) (now (reply .entry)) .area ⌝ }
-    ensures reply { λ _. ⌜ now (reply .exit) ≡ entry (now (area .entry)) (Poll (length (now (reply .entry)))) (now (reply .entry)) .reply ⌝ }
+pub extern "C" fn grimholdi_poll(area: &mut [u8], lane: u32, reply: &mut [u8]) -> Answer
+    ensures { λ r. ⌜ r ≡ entry (now (area .entry)) (Poll lane (length (now (reply .entry)))) (now (reply .entry)) .answer ⌝ }
+    ensures area { λ _. ⌜ now (area .exit) ≡ entry (now (area .entry)) (Poll lane (length (now (reply .entry)))) (now (reply .entry)) .area ⌝ }
+    ensures reply { λ _. ⌜ now (reply .exit) ≡ entry (now (area .entry)) (Poll lane (length (now (reply .entry)))) (now (reply .entry)) .reply ⌝ }
 {
     let read = area::read_area(area);
     if read.ok {
         let hub = read.hub;
-        return give_reply(hub.poll(reply.len()), reply);
+        return give_reply(hub.poll(lane, reply.len()), reply);
     }
     plain_answer(6)
 }
@@ -409,6 +423,7 @@ pub extern "C" fn grimholdi_poll(area: &mut [u8], reply: &mut [u8]) -> Answer
 #[no_mangle]
 pub extern "C" fn grimholdi_start_split(
     area: &mut [u8],
+    lane: u32,
     pid: u32,
     transfer: u32,
     lowspeed: u32,
@@ -417,12 +432,13 @@ pub extern "C" fn grimholdi_start_split(
     endpoint: u32,
     payload: &[u8],
 ) -> Answer
-    ensures { λ r. ⌜ r ≡ entry (now (area .entry)) (Start pid transfer lowspeed toggle address endpoint (now (payload .entry))) [] .answer ⌝ }
-    ensures area { λ _. ⌜ now (area .exit) ≡ entry (now (area .entry)) (Start pid transfer lowspeed toggle address endpoint (now (payload .entry))) [] .area ⌝ }
+    ensures { λ r. ⌜ r ≡ entry (now (area .entry)) (Start lane pid transfer lowspeed toggle address endpoint (now (payload .entry))) [] .answer ⌝ }
+    ensures area { λ _. ⌜ now (area .exit) ≡ entry (now (area .entry)) (Start lane pid transfer lowspeed toggle address endpoint (now (payload .entry))) [] .area ⌝ }
 {
     if taken::is_taken(area) {
         return start_split(
             area,
+            lane,
             pid,
             transfer,
             lowspeed,
@@ -438,17 +454,18 @@ pub extern "C" fn grimholdi_start_split(
 #[no_mangle]
 pub extern "C" fn grimholdi_complete_split(
     area: &mut [u8],
+    lane: u32,
     address: u32,
     endpoint: u32,
     direction: u32,
     reply: &mut [u8],
 ) -> Answer
-    ensures { λ r. ⌜ r ≡ entry (now (area .entry)) (Complete address endpoint direction (length (now (reply .entry)))) (now (reply .entry)) .answer ⌝ }
-    ensures area { λ _. ⌜ now (area .exit) ≡ entry (now (area .entry)) (Complete address endpoint direction (length (now (reply .entry)))) (now (reply .entry)) .area ⌝ }
-    ensures reply { λ _. ⌜ now (reply .exit) ≡ entry (now (area .entry)) (Complete address endpoint direction (length (now (reply .entry)))) (now (reply .entry)) .reply ⌝ }
+    ensures { λ r. ⌜ r ≡ entry (now (area .entry)) (Complete lane address endpoint direction (length (now (reply .entry)))) (now (reply .entry)) .answer ⌝ }
+    ensures area { λ _. ⌜ now (area .exit) ≡ entry (now (area .entry)) (Complete lane address endpoint direction (length (now (reply .entry)))) (now (reply .entry)) .area ⌝ }
+    ensures reply { λ _. ⌜ now (reply .exit) ≡ entry (now (area .entry)) (Complete lane address endpoint direction (length (now (reply .entry)))) (now (reply .entry)) .reply ⌝ }
 {
     if taken::is_taken(area) {
-        return complete_split(area, address, endpoint, direction, reply);
+        return complete_split(area, lane, address, endpoint, direction, reply);
     }
     plain_answer(6)
 }

@@ -20,6 +20,7 @@ use Rattle.buffer.specs.Lengths.{resultLength, suits, isData, numbersFit}
 use Rattle.buffer.specs.Valid.{slotFits, Whole}
 use Rattle.translator.specs.declared.LowSide.{LowSide}
 use Rattle.translator.specs.declared.LowSide.the-variants.{Idle, Running, Abandoned}
+use Rattle.buffer.specs.declared.Lane.{Lane}
 use Rattle.translator.specs.declared.Translator.{Translator}
 use Rattle.translator.specs.declared.Found.{Found}
 use Rattle.translator.specs.declared.Found.the-variants.{Nowhere, At}
@@ -37,6 +38,7 @@ use Rattle.translator.proofs.Kept.{start-le, result-le}
 use Rattle.request.specs.declared.Request.{Request}
 use Rattle.request.specs.declared.Request.the-variants.{Wrong, SetConfiguration, GetConfiguration, GetHubDescriptor, GetHubStatus, GetPortStatus, ClearHubFeature, ClearPortFeature, SetPortFeature, ClearTTBuffer, ResetTT}
 use Rattle.request.specs.Request.{requestOf}
+use Rattle.numbers.specs.Named.{laneFrom}
 use Rattle.numbers.specs.Split.{keyFrom}
 use Rattle.hub.specs.declared.Hub.{Hub}
 use Rattle.hub.specs.Hub.{withTranslator}
@@ -54,24 +56,24 @@ abbrev OnlyData : Outcome → Type 0
 OnlyData o = eqb (o .answer .number) 1 ≡ false → o .answer .bytes ≡ []
 
 module _ (h : Hub) where
-  request-only : (r : Request) → OnlyData (byRequest h r)
-  request-only (Wrong f) e = refl
-  request-only (SetConfiguration on) e = refl
-  request-only GetConfiguration e = absurd (true≢false e)
-  request-only (GetHubDescriptor n) e = absurd (true≢false e)
-  request-only GetHubStatus e = absurd (true≢false e)
-  request-only (GetPortStatus n) e = absurd (true≢false e)
-  request-only ClearHubFeature e = refl
-  request-only (ClearPortFeature n f) e = refl
-  request-only (SetPortFeature n f) e = refl
-  request-only (ClearTTBuffer k) e = refl
-  request-only ResetTT e = refl
+  request-only : (y : Lane) (r : Request) → OnlyData (byRequest h y r)
+  request-only y (Wrong f) e = refl
+  request-only y (SetConfiguration on) e = refl
+  request-only y GetConfiguration e = absurd (true≢false e)
+  request-only y (GetHubDescriptor n) e = absurd (true≢false e)
+  request-only y GetHubStatus e = absurd (true≢false e)
+  request-only y (GetPortStatus n) e = absurd (true≢false e)
+  request-only y ClearHubFeature e = refl
+  request-only y (ClearPortFeature n f) e = refl
+  request-only y (SetPortFeature n f) e = refl
+  request-only y (ClearTTBuffer k) e = refl
+  request-only y ResetTT e = refl
 
-  requested-only : (r : Request) → OnlyData (requested h r)
+  requested-only : (y : Lane) (r : Request) → OnlyData (requested h y r)
   unfolding requested
-  requested-only r =
-      elim (h .configured || servedAlways r) as (λ b. OnlyData (cond b (byRequest h r) (refuse 2 h))) [
-        | true ↦ request-only r
+  requested-only y r =
+      elim (h .configured || servedAlways r) as (λ b. OnlyData (cond b (byRequest h y r) (refuse 2 h))) [
+        | true ↦ request-only y r
         | false ↦ λ e. refl
       ]
 
@@ -110,10 +112,10 @@ module _ (h : Hub) where
 
   served-only : (c : Call) → OnlyData (served h c)
   unfolding served
-  served-only (Control s room) = requested-only (requestOf (h .identity .ports) s)
-  served-only (Poll room) = polled-only
-  served-only (Start p t l g a e b) = λ z. refl
-  served-only (Complete a e d room) = completed-only (h .translator) (keyFrom a e d)
+  served-only (Control z s room) = requested-only (laneFrom z) (requestOf (h .identity .ports) s)
+  served-only (Poll z room) = polled-only
+  served-only (Start z p t l g a e b) = λ z. refl
+  served-only (Complete z a e d room) = completed-only (h .translator) (keyFrom z a e d)
   served-only (Launch room) = let o = launch (h .translator) in launched-only (withTranslator h (o .next)) (o .answer) (o .payload)
   served-only (Deliver r b) = λ z. refl
   served-only (Event e n) = λ z. refl
@@ -138,24 +140,24 @@ buffer-fits : (b : Buffer) → Whole b → length (content (b .payload)) ≤ 64
 buffer-fits b w = let l : b .payload .len ≤ 64 = slot-le (b .slot) (b .payload .len) (w .fits) in simp length-take (omega arith)
 
 module _ (h : Hub) (v : ValidHub h) where
-  request-fits : (r : Request) → Fit (byRequest h r)
-  request-fits (Wrong f) = omega arith
-  request-fits (SetConfiguration on) = omega arith
-  request-fits GetConfiguration = omega arith
-  request-fits (GetHubDescriptor n) = let d = descriptor (h .identity) in simp length-take (omega arith)
-  request-fits GetHubStatus = omega arith
-  request-fits (GetPortStatus n) = omega arith
-  request-fits ClearHubFeature = omega arith
-  request-fits (ClearPortFeature n f) = omega arith
-  request-fits (SetPortFeature n f) = omega arith
-  request-fits (ClearTTBuffer k) = omega arith
-  request-fits ResetTT = omega arith
+  request-fits : (y : Lane) (r : Request) → Fit (byRequest h y r)
+  request-fits y (Wrong f) = omega arith
+  request-fits y (SetConfiguration on) = omega arith
+  request-fits y GetConfiguration = omega arith
+  request-fits y (GetHubDescriptor n) = let d = descriptor (h .identity) in simp length-take (omega arith)
+  request-fits y GetHubStatus = omega arith
+  request-fits y (GetPortStatus n) = omega arith
+  request-fits y ClearHubFeature = omega arith
+  request-fits y (ClearPortFeature n f) = omega arith
+  request-fits y (SetPortFeature n f) = omega arith
+  request-fits y (ClearTTBuffer k) = omega arith
+  request-fits y ResetTT = omega arith
 
-  requested-fits : (r : Request) → Fit (requested h r)
+  requested-fits : (y : Lane) (r : Request) → Fit (requested h y r)
   unfolding requested
-  requested-fits r =
-      elim (h .configured || servedAlways r) as (λ b. Fit (cond b (byRequest h r) (refuse 2 h))) [
-        | true ↦ request-fits r
+  requested-fits y r =
+      elim (h .configured || servedAlways r) as (λ b. Fit (cond b (byRequest h y r) (refuse 2 h))) [
+        | true ↦ request-fits y r
         | false ↦ omega arith
       ]
 
@@ -207,10 +209,10 @@ module _ (h : Hub) (v : ValidHub h) where
 
   served-fits : (c : Call) → Fit (served h c)
   unfolding served
-  served-fits (Control s room) = requested-fits (requestOf (h .identity .ports) s)
-  served-fits (Poll room) = polled-fits
-  served-fits (Start p t l g a e b) = omega arith
-  served-fits (Complete a e d room) = completed-fits (h .translator) (v .translator) (keyFrom a e d)
+  served-fits (Control z s room) = requested-fits (laneFrom z) (requestOf (h .identity .ports) s)
+  served-fits (Poll z room) = polled-fits
+  served-fits (Start z p t l g a e b) = omega arith
+  served-fits (Complete z a e d room) = completed-fits (h .translator) (v .translator) (keyFrom z a e d)
   served-fits (Launch room) = launched-fits (h .translator) (v .translator)
   served-fits (Deliver r b) = omega arith
   served-fits (Event e n) = omega arith

@@ -3,6 +3,7 @@ use Rattle.hub.specs.Claims.{HubClaims}
 use Rattle.hub.proofs.Valid.{new-valid, step-valid}
 use Rattle.hub.proofs.Refused.{refused-same}
 use Rattle.hub.proofs.MadeFrom.{numbers-kept}
+use Rattle.hub.proofs.Lanes.{no-such-lane}
 use Rattle.hub.proofs.Bytes.{bytes-of-data, bytes-fit}
 
 pub hub-claims : HubClaims
@@ -13,6 +14,7 @@ hub-claims =
       refused-same = refused-same;
       identity-kept = λ h c. numbers-kept h c .identity;
       buffers-kept = λ h c. numbers-kept h c .buffers;
+      no-such-lane = no-such-lane;
       bytes-of-data = bytes-of-data;
       bytes-fit = bytes-fit;
     }

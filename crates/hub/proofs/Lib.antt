@@ -6,4 +6,5 @@ pub mod Valid
 pub mod Refused
 pub mod MadeFrom
 pub mod Bytes
+pub mod Lanes
 pub mod Claimed

@@ -20,18 +20,21 @@ use Rattle.buffer.specs.Buffer.{holds}
 use Rattle.buffer.specs.Lengths.{startFits, resultLength, suits}
 use Rattle.translator.specs.declared.LowSide.{LowSide}
 use Rattle.translator.specs.declared.LowSide.the-variants.{Idle, Running, Abandoned}
+use Rattle.buffer.specs.declared.Lane.{Lane}
 use Rattle.translator.specs.declared.Translator.{Translator}
 use Rattle.translator.specs.declared.Found.{Found}
 use Rattle.translator.specs.declared.Found.the-variants.{Nowhere, At}
 use Rattle.translator.specs.declared.Choice.{Choice}
-use Rattle.translator.specs.declared.Choice.the-variants.{NoRoom, Held, Reused, Took}
+use Rattle.translator.specs.declared.Choice.the-variants.{NoRoom, LimitReached, Held, Reused, Took}
 use Rattle.translator.specs.declared.Earliest.{Earliest}
 use Rattle.translator.specs.declared.Earliest.the-variants.{NonePending, Stored}
 use Rattle.translator.specs.declared.StartAnswer.the-variants as start
 use Rattle.translator.specs.declared.DeliverAnswer.the-variants as answer
 use Rattle.translator.specs.declared.Delivered.{Delivered}
 use Rattle.translator.specs.Translator.{at}
-use Rattle.translator.specs.Search.{find, chosen}
+use Rattle.translator.specs.Search.{find}
+use Rattle.translator.specs.Limit.{permitted}
+use Rattle.translator.specs.ResetLane.{resetLane}
 use Rattle.translator.specs.Order.{earliest}
 use Rattle.translator.specs.StartSplit.{stored, startBy, startSplit}
 use Rattle.translator.specs.CompleteSplit.{completed, completeAt, completeSplit}
@@ -41,12 +44,12 @@ use Rattle.translator.specs.Clear.{clearAt, clearBuffer}
 use Rattle.request.specs.declared.Request.{Request}
 use Rattle.request.specs.declared.Request.the-variants.{Wrong, SetConfiguration, GetConfiguration, GetHubDescriptor, GetHubStatus, GetPortStatus, ClearHubFeature, ClearPortFeature, SetPortFeature, ClearTTBuffer, ResetTT}
 use Rattle.request.specs.Request.{requestOf}
-use Rattle.numbers.specs.Named.{resultFrom}
+use Rattle.numbers.specs.Named.{laneFrom, resultFrom}
 use Rattle.numbers.specs.Split.{splitFrom, keyFrom}
 use Rattle.hub.specs.declared.Hub.{Hub}
 use Rattle.hub.specs.Hub.{withPorts, withTranslator, configuredAs, resetHub, tickedHub}
 use Rattle.hub.specs.Call.{Call, Control, Poll, Start, Complete, Launch, Deliver, Event, Tick, BusReset, refuse, gives}
-use Rattle.hub.specs.Requests.{byRequest, servedAlways, requested}
+use Rattle.hub.specs.Requests.{keyed, byRequest, servedAlways, requested}
 use Rattle.hub.specs.Rules.{polled}
 use Rattle.hub.specs.Step.{served, step}
 use Rattle.hub.proofs.Order.{by-step}
@@ -57,10 +60,11 @@ use Rattle.hub.proofs.Valid.{completed-next, launched-next}
 module _ (t : Translator) where
   start-count : (s : StartSplit) (l : List ℕ) → startSplit t s l .next .count ≡ t .count
   unfolding startSplit stored
-  start-count s l = go (startFits s (length l)) (chosen (keyOf s) (take (t .count) (t .buffers)))
+  start-count s l = go (startFits s (length l)) (permitted (t .count) (keyOf s) (take (t .count) (t .buffers)))
     where
       go : (x : Bool) (c : Choice) → cond x (startBy t s l c) (record { next = t; answer = start.Outside }) .next .count ≡ t .count
       go true NoRoom = refl
+      go true LimitReached = refl
       go true (Held n) = refl
       go true (Reused n) = refl
       go true (Took n) = refl
@@ -127,6 +131,10 @@ module _ (t : Translator) where
       go Nowhere = refl
       go (At n) = refl
 
+  reset-count : (z : Lane) → resetLane t z .count ≡ t .count
+  unfolding resetLane
+  reset-count z = refl
+
 -- ---- the hub
 
 -- made from the same numbers
@@ -141,25 +149,25 @@ module _ (h : Hub) where
   translator-numbers : (t : Translator) → t .count ≡ h .translator .count → SameNumbers h (withTranslator h t)
   translator-numbers t e = record { identity = refl; buffers = e }
 
-  request-numbers : (r : Request) → SameNumbers h (byRequest h r .next)
+  request-numbers : (y : Lane) (r : Request) → SameNumbers h (byRequest h y r .next)
   unfolding configuredAs
-  request-numbers (Wrong f) = nothing
-  request-numbers (SetConfiguration on) = record { identity = refl; buffers = refl }
-  request-numbers GetConfiguration = nothing
-  request-numbers (GetHubDescriptor n) = nothing
-  request-numbers GetHubStatus = nothing
-  request-numbers (GetPortStatus n) = nothing
-  request-numbers ClearHubFeature = nothing
-  request-numbers (ClearPortFeature n f) = record { identity = refl; buffers = refl }
-  request-numbers (SetPortFeature n f) = record { identity = refl; buffers = refl }
-  request-numbers (ClearTTBuffer k) = translator-numbers _ (clear-count (h .translator) k)
-  request-numbers ResetTT = record { identity = refl; buffers = refl }
+  request-numbers y (Wrong f) = nothing
+  request-numbers y (SetConfiguration on) = record { identity = refl; buffers = refl }
+  request-numbers y GetConfiguration = nothing
+  request-numbers y (GetHubDescriptor n) = nothing
+  request-numbers y GetHubStatus = nothing
+  request-numbers y (GetPortStatus n) = nothing
+  request-numbers y ClearHubFeature = nothing
+  request-numbers y (ClearPortFeature n f) = record { identity = refl; buffers = refl }
+  request-numbers y (SetPortFeature n f) = record { identity = refl; buffers = refl }
+  request-numbers y (ClearTTBuffer k) = translator-numbers _ (clear-count (h .translator) (keyed y k))
+  request-numbers y ResetTT = translator-numbers _ (reset-count (h .translator) y)
 
-  requested-numbers : (r : Request) → SameNumbers h (requested h r .next)
+  requested-numbers : (y : Lane) (r : Request) → SameNumbers h (requested h y r .next)
   unfolding requested
-  requested-numbers r =
-      elim (h .configured || servedAlways r) as (λ b. SameNumbers h (cond b (byRequest h r) (refuse 2 h) .next)) [
-        | true ↦ request-numbers r
+  requested-numbers y r =
+      elim (h .configured || servedAlways r) as (λ b. SameNumbers h (cond b (byRequest h y r) (refuse 2 h) .next)) [
+        | true ↦ request-numbers y r
         | false ↦ nothing
       ]
 
@@ -182,13 +190,13 @@ module _ (h : Hub) where
 
   served-numbers : (c : Call) → SameNumbers h (served h c .next)
   unfolding served resetHub
-  served-numbers (Control s room) = requested-numbers (requestOf (h .identity .ports) s)
-  served-numbers (Poll room) = polled-numbers
-  served-numbers (Start p t l g a e b) = translator-numbers _ (start-count (h .translator) (splitFrom p t l g a e) b)
-  served-numbers (Complete a e d room) =
-      let o = completeSplit (h .translator) (keyFrom a e d) in
+  served-numbers (Control z s room) = requested-numbers (laneFrom z) (requestOf (h .identity .ports) s)
+  served-numbers (Poll z room) = polled-numbers
+  served-numbers (Start z p t l g a e b) = translator-numbers _ (start-count (h .translator) (splitFrom z p t l g a e) b)
+  served-numbers (Complete z a e d room) =
+      let o = completeSplit (h .translator) (keyFrom z a e d) in
       subst (SameNumbers h) (sym (completed-next (withTranslator h (o .next)) (o .answer) (o .payload)))
-      (translator-numbers _ (complete-count (h .translator) (keyFrom a e d)))
+      (translator-numbers _ (complete-count (h .translator) (keyFrom z a e d)))
   served-numbers (Launch room) =
       let o = launch (h .translator) in
       subst (SameNumbers h) (sym (launched-next (withTranslator h (o .next)) (o .answer) (o .payload))) (translator-numbers _ (launch-count (h .translator)))

@@ -12,6 +12,7 @@ use Rattle.ports.specs.Ports.{portAt}
 use Rattle.ports.specs.Bitmap.{bitmapOf}
 use Rattle.buffer.specs.declared.Key.{Key}
 use Rattle.buffer.specs.Lengths.{isData}
+use Rattle.buffer.specs.declared.Lane.{Lane}
 use Rattle.translator.specs.declared.Translator.{Translator}
 use Rattle.translator.specs.declared.CompleteAnswer.{CompleteAnswer}
 use Rattle.translator.specs.declared.CompleteAnswer.the-variants.{NoMatch, NotYet, Gives}
@@ -26,7 +27,7 @@ use Rattle.translator.proofs.Calls as calls
 use Rattle.request.specs.declared.Request.{Request}
 use Rattle.request.specs.declared.Request.the-variants.{Wrong, SetConfiguration, GetConfiguration, GetHubDescriptor, GetHubStatus, GetPortStatus, ClearHubFeature, ClearPortFeature, SetPortFeature, ClearTTBuffer, ResetTT}
 use Rattle.request.specs.Request.{requestOf}
-use Rattle.numbers.specs.Named.{eventFrom, resultFrom}
+use Rattle.numbers.specs.Named.{laneFrom, eventFrom, resultFrom}
 use Rattle.numbers.specs.Split.{splitFrom, keyFrom}
 use Rattle.hub.specs.declared.Hub.{Hub}
 use Rattle.hub.specs.Hub.{withTranslator}
@@ -42,24 +43,24 @@ abbrev Same : Hub → Outcome → Type 0
 Same h o = isRefusal (o .answer .number) ≡ true → o ≡ refuse (o .answer .number) h
 
 module _ (h : Hub) where
-  request-same : (r : Request) → Same h (byRequest h r)
-  request-same (Wrong f) e = refl
-  request-same (SetConfiguration on) e = absurd (false≢true e)
-  request-same GetConfiguration e = absurd (false≢true e)
-  request-same (GetHubDescriptor n) e = absurd (false≢true e)
-  request-same GetHubStatus e = absurd (false≢true e)
-  request-same (GetPortStatus n) e = absurd (false≢true e)
-  request-same ClearHubFeature e = absurd (false≢true e)
-  request-same (ClearPortFeature n f) e = absurd (false≢true e)
-  request-same (SetPortFeature n f) e = absurd (false≢true e)
-  request-same (ClearTTBuffer k) e = absurd (false≢true e)
-  request-same ResetTT e = absurd (false≢true e)
+  request-same : (y : Lane) (r : Request) → Same h (byRequest h y r)
+  request-same y (Wrong f) e = refl
+  request-same y (SetConfiguration on) e = absurd (false≢true e)
+  request-same y GetConfiguration e = absurd (false≢true e)
+  request-same y (GetHubDescriptor n) e = absurd (false≢true e)
+  request-same y GetHubStatus e = absurd (false≢true e)
+  request-same y (GetPortStatus n) e = absurd (false≢true e)
+  request-same y ClearHubFeature e = absurd (false≢true e)
+  request-same y (ClearPortFeature n f) e = absurd (false≢true e)
+  request-same y (SetPortFeature n f) e = absurd (false≢true e)
+  request-same y (ClearTTBuffer k) e = absurd (false≢true e)
+  request-same y ResetTT e = absurd (false≢true e)
 
-  requested-same : (r : Request) → Same h (requested h r)
+  requested-same : (y : Lane) (r : Request) → Same h (requested h y r)
   unfolding requested
-  requested-same r =
-      elim (h .configured || servedAlways r) as (λ b. Same h (cond b (byRequest h r) (refuse 2 h))) [
-        | true ↦ request-same r
+  requested-same y r =
+      elim (h .configured || servedAlways r) as (λ b. Same h (cond b (byRequest h y r) (refuse 2 h))) [
+        | true ↦ request-same y r
         | false ↦ λ e. refl
       ]
 
@@ -112,12 +113,12 @@ module _ (h : Hub) where
 
   served-same : (c : Call) → within h c ≡ true → fitting h c ≡ true → Same h (served h c)
   unfolding fitting served
-  served-same (Control s room) w f r = requested-same (requestOf (h .identity .ports) s) r
-  served-same (Poll room) w f r = polled-same r
-  served-same (Start p t l g a e b) w f r =
-      let o = startSplit (h .translator) (splitFrom p t l g a e) b in
-      ap (λ (x : Translator). startedAs h (record { next = x; answer = o .answer })) (calls.refused-same .start (h .translator) (splitFrom p t l g a e) b r)
-  served-same (Complete a e d room) w f r = completed-same (keyFrom a e d) r
+  served-same (Control z s room) w f r = requested-same (laneFrom z) (requestOf (h .identity .ports) s) r
+  served-same (Poll z room) w f r = polled-same r
+  served-same (Start z p t l g a e b) w f r =
+      let o = startSplit (h .translator) (splitFrom z p t l g a e) b in
+      ap (λ (x : Translator). startedAs h (record { next = x; answer = o .answer })) (calls.refused-same .start (h .translator) (splitFrom z p t l g a e) b r)
+  served-same (Complete z a e d room) w f r = completed-same (keyFrom z a e d) r
   served-same (Launch room) w f r = launched-same r
   served-same (Deliver r b) w f e =
       let o = deliver (h .translator) (resultFrom r) b in

@@ -16,6 +16,7 @@ use Rattle.ports.specs.Ports.{newPorts, portAt}
 use Rattle.ports.specs.Sweep.{swept}
 use Rattle.ports.specs.Bitmap.{bitmapOf}
 use Rattle.ports.specs.Claims.{Among}
+use Rattle.buffer.specs.declared.Lane.{Lane}
 use Rattle.translator.specs.declared.Translator.{Translator}
 use Rattle.translator.specs.declared.CompleteAnswer.{CompleteAnswer}
 use Rattle.translator.specs.declared.CompleteAnswer.the-variants.{NoMatch, NotYet, Gives}
@@ -31,12 +32,12 @@ use Rattle.request.specs.declared.Request.the-variants.{Wrong, SetConfiguration
 use Rattle.request.specs.Request.{requestOf}
 use Rattle.request.specs.Claims.{InRange}
 use Rattle.request.proofs.Claimed.{request-claims}
-use Rattle.numbers.specs.Named.{isEvent, eventFrom, portNamed, resultFrom}
+use Rattle.numbers.specs.Named.{laneFrom, isEvent, eventFrom, portNamed, resultFrom}
 use Rattle.numbers.specs.Split.{splitFrom, keyFrom}
 use Rattle.hub.specs.declared.Hub.{Hub}
 use Rattle.hub.specs.Hub.{newFits, hubOf, withPorts, withTranslator, withPortAt, configuredAs, resetHub, tickedHub}
 use Rattle.hub.specs.Call.{Call, Control, Poll, Start, Complete, Launch, Deliver, Event, Tick, BusReset, refuse, gives}
-use Rattle.hub.specs.Requests.{byRequest, servedAlways, requested}
+use Rattle.hub.specs.Requests.{keyed, byRequest, servedAlways, requested}
 use Rattle.hub.specs.Rules.{polled, completedBy, launchedBy}
 use Rattle.hub.specs.Step.{within, fitting, served, step}
 use Rattle.hub.specs.Valid.{ValidHub}
@@ -102,25 +103,25 @@ module _ (h : Hub) (v : ValidHub h) where
   only true e = refl
   only false e = e
 
-  request-valid : (r : Request) → InRange (h .identity .ports) r → (h .configured || servedAlways r) ≡ true → ValidHub (byRequest h r .next)
-  request-valid (Wrong f) i e = v
-  request-valid (SetConfiguration on) i e = configured-valid on
-  request-valid GetConfiguration i e = v
-  request-valid (GetHubDescriptor n) i e = v
-  request-valid GetHubStatus i e = v
-  request-valid (GetPortStatus n) i e = v
-  request-valid ClearHubFeature i e = v
-  request-valid (ClearPortFeature n f) i e = port-valid (only (h .configured) e) n i (clearFeature f) tt
-  request-valid (SetPortFeature n f) i e = port-valid (only (h .configured) e) n i (setFeature f) tt
-  request-valid (ClearTTBuffer k) i e = translator-valid _ (translating.clear-valid (h .translator) (v .translator) k)
-  request-valid ResetTT i e = translator-valid _ empty-valid
+  request-valid : (y : Lane) (r : Request) → InRange (h .identity .ports) r → (h .configured || servedAlways r) ≡ true → ValidHub (byRequest h y r .next)
+  request-valid y (Wrong f) i e = v
+  request-valid y (SetConfiguration on) i e = configured-valid on
+  request-valid y GetConfiguration i e = v
+  request-valid y (GetHubDescriptor n) i e = v
+  request-valid y GetHubStatus i e = v
+  request-valid y (GetPortStatus n) i e = v
+  request-valid y ClearHubFeature i e = v
+  request-valid y (ClearPortFeature n f) i e = port-valid (only (h .configured) e) n i (clearFeature f) tt
+  request-valid y (SetPortFeature n f) i e = port-valid (only (h .configured) e) n i (setFeature f) tt
+  request-valid y (ClearTTBuffer k) i e = translator-valid _ (translating.clear-valid (h .translator) (v .translator) (keyed y k))
+  request-valid y ResetTT i e = translator-valid _ (translating.reset-valid (h .translator) (v .translator) y)
 
-  requested-valid : (r : Request) → InRange (h .identity .ports) r → ValidHub (requested h r .next)
+  requested-valid : (y : Lane) (r : Request) → InRange (h .identity .ports) r → ValidHub (requested h y r .next)
   unfolding requested
-  requested-valid r i = go (h .configured || servedAlways r) refl
+  requested-valid y r i = go (h .configured || servedAlways r) refl
     where
-      go : (b : Bool) → (h .configured || servedAlways r) ≡ b → ValidHub (cond b (byRequest h r) (refuse 2 h) .next)
-      go true e = request-valid r i e
+      go : (b : Bool) → (h .configured || servedAlways r) ≡ b → ValidHub (cond b (byRequest h y r) (refuse 2 h) .next)
+      go true e = request-valid y r i e
       go false e = v
 
   -- ---- the calls
@@ -164,13 +165,13 @@ launched-next g (Launches s) p = refl
 module _ (h : Hub) (v : ValidHub h) where
   served-valid : (c : Call) → within h c ≡ true → fitting h c ≡ true → ValidHub (served h c .next)
   unfolding within fitting served
-  served-valid (Control s room) w f = requested-valid h v (requestOf (h .identity .ports) s) (request-claims .in-range (h .identity .ports) s)
-  served-valid (Poll room) w f = polled-valid h v
-  served-valid (Start p t l g a e b) w f = translator-valid h v _ (translating.start-valid (h .translator) (v .translator) (splitFrom p t l g a e) b)
-  served-valid (Complete a e d room) w f =
-      let o = completeSplit (h .translator) (keyFrom a e d) in
+  served-valid (Control z s room) w f = requested-valid h v (laneFrom z) (requestOf (h .identity .ports) s) (request-claims .in-range (h .identity .ports) s)
+  served-valid (Poll z room) w f = polled-valid h v
+  served-valid (Start z p t l g a e b) w f = translator-valid h v _ (translating.start-valid (h .translator) (v .translator) (splitFrom z p t l g a e) b)
+  served-valid (Complete z a e d room) w f =
+      let o = completeSplit (h .translator) (keyFrom z a e d) in
       subst ValidHub (sym (completed-next (withTranslator h (o .next)) (o .answer) (o .payload)))
-      (translator-valid h v _ (translating.complete-valid (h .translator) (v .translator) (keyFrom a e d)))
+      (translator-valid h v _ (translating.complete-valid (h .translator) (v .translator) (keyFrom z a e d)))
   served-valid (Launch room) w f =
       let o = launch (h .translator) in
       subst ValidHub (sym (launched-next (withTranslator h (o .next)) (o .answer) (o .payload)))

@@ -1,7 +1,7 @@
 -- How the code of the calls and requests is put together: what the functions that it calls gave makes what the rule says.
 -- Assumes nothing.
 use Prim.Native.Nat.{ℕ, _≤_, min}
-use mathlib.Core.Path.{_≡_, ap, _∙_}
+use mathlib.Core.Path.{_≡_, ap, ap₂, _∙_}
 use mathlib.Core.Bool.{Bool, true, false, not, _&&_, _||_}
 use mathlib.Core.List.{List, [], _∷_}
 use native.Mathlib.Omega.{arith}
@@ -18,6 +18,7 @@ use Rattle.port.specs.Reaction.{Answered, numberOf, answered}
 use Rattle.port.specs.Events.{lineEvent}
 use Rattle.ports.specs.Ports.{portAt}
 use Rattle.ports.specs.Bitmap.{bitmapOf}
+use Rattle.buffer.specs.declared.Lane.{Lane}
 use Rattle.buffer.specs.declared.DeviceResult.{DeviceResult}
 use Rattle.translator.specs.declared.Translator.{Translator}
 use Rattle.translator.specs.declared.Launched.{Launched}
@@ -27,7 +28,7 @@ use Rattle.translator.specs.Deliver.{deliver}
 use Rattle.translator.specs.Answers.{launchNumber, deliverNumber}
 use Rattle.request.specs.declared.Request.{Request}
 use Rattle.request.specs.Request.{requestOf}
-use Rattle.numbers.specs.Named.{eventFrom}
+use Rattle.numbers.specs.Named.{eventFrom, laneFrom}
 use Rattle.hub.specs.declared.Hub.{Hub}
 use Rattle.hub.specs.Hub.{withPortAt}
 use Rattle.hub.specs.Call.{Outcome, plain, refuse, gives}
@@ -45,20 +46,20 @@ module _ (h : Hub) {o : Outcome} where
   poll-data {m} e p b z = e ∙ rw (p, ← b, ne-eqb m 0 z)
 
   -- the bytes are taken one by one: the request is read from them by their places
-  pub control-served : (s : List ℕ) {r : Request} → o ≡ requested h r
+  pub control-served : (z : ℕ) (s : List ℕ) {y : Lane} {r : Request} → o ≡ requested h y r → y ≡ laneFrom z
       → r ≡ requestOf (h .identity .ports) (getD s 0 0 ∷ getD s 1 0 ∷ getD s 2 0 ∷ getD s 3 0 ∷ getD s 4 0 ∷ getD s 5 0 ∷ getD s 6 0 ∷ getD s 7 0 ∷ [])
-      → o ≡ requested h (requestOf (h .identity .ports) s)
+      → o ≡ requested h (laneFrom z) (requestOf (h .identity .ports) s)
   unfolding requestOf
-  control-served s e q = e ∙ ap (requested h) q
+  control-served z s e l q = e ∙ ap₂ (requested h) l q
 
   -- unconfigured, only some requests are served
-  pub requested-done : (r : Request) {b s : Bool} → o ≡ byRequest h r → b ≡ (h .configured || s) → s ≡ servedAlways r → b ≡ true → o ≡ requested h r
+  pub requested-done : (y : Lane) (r : Request) {b s : Bool} → o ≡ byRequest h y r → b ≡ (h .configured || s) → s ≡ servedAlways r → b ≡ true → o ≡ requested h y r
   unfolding requested
-  requested-done r e b s t = e ∙ rw (← s, ← b, t)
+  requested-done y r e b s t = e ∙ rw (← s, ← b, t)
 
-  pub requested-refused : (r : Request) {b s : Bool} → o ≡ refuse 2 h → b ≡ (h .configured || s) → s ≡ servedAlways r → b ≡ false → o ≡ requested h r
+  pub requested-refused : (y : Lane) (r : Request) {b s : Bool} → o ≡ refuse 2 h → b ≡ (h .configured || s) → s ≡ servedAlways r → b ≡ false → o ≡ requested h y r
   unfolding requested
-  requested-refused r e b s t = e ∙ rw (← s, ← b, t)
+  requested-refused y r e b s t = e ∙ rw (← s, ← b, t)
 
   -- the descriptor is cut to the length that is asked
   pub descriptor-cut : (n : ℕ) {k : ℕ} {p : Payload} → o ≡ gives h (content p) → p ≡ payloadOf (take k (descriptor (h .identity))) → k ≡ min n 9

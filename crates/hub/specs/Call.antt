@@ -1,20 +1,21 @@
 -- The calls on a hub and their answers. A reader must believe: these are all the calls, with any numbers, any bytes and any length of
 -- the reply space, and an answer is document 01's number with all else that a call gives back.
 use Prim.Native.Nat.{ℕ}
+use mathlib.Core.Option.{Option, none, some}
 use mathlib.Core.List.{List, []}
 use Rattle.payload.specs.Payload.{content}
 use Rattle.hub.specs.declared.Hub.{Hub}
 use Rattle.hub.specs.declared.Stepped.{Stepped}
 
 pub data Call : Type 0 where
-  -- setup bytes, length of the reply space
-  Control : List ℕ → ℕ → Call
-  -- length of the reply space
-  Poll : ℕ → Call
-  -- PID, transfer type, low-speed flag, toggle, address, endpoint, payload
-  Start : ℕ → ℕ → ℕ → ℕ → ℕ → ℕ → List ℕ → Call
-  -- address, endpoint, direction, length of the reply space
-  Complete : ℕ → ℕ → ℕ → ℕ → Call
+  -- lane, setup bytes, length of the reply space
+  Control : ℕ → List ℕ → ℕ → Call
+  -- lane, length of the reply space
+  Poll : ℕ → ℕ → Call
+  -- lane, PID, transfer type, low-speed flag, toggle, address, endpoint, payload
+  Start : ℕ → ℕ → ℕ → ℕ → ℕ → ℕ → ℕ → List ℕ → Call
+  -- lane, address, endpoint, direction, length of the reply space
+  Complete : ℕ → ℕ → ℕ → ℕ → ℕ → Call
   -- length of the reply space
   Launch : ℕ → Call
   -- result, payload
@@ -24,11 +25,24 @@ pub data Call : Type 0 where
   Tick : Call
   BusReset : Call
 
+-- the lane that it comes from, where a call carries one
+abbrev pub laneOf : Call → Option ℕ
+laneOf (Control z s room) = some z
+laneOf (Poll z room) = some z
+laneOf (Start z p t f g a e l) = some z
+laneOf (Complete z a e d room) = some z
+laneOf (Launch room) = none
+laneOf (Deliver r l) = none
+laneOf (Event e n) = none
+laneOf Tick = none
+laneOf BusReset = none
+
 -- numbers that don't apply are 0
 pub record Answer : Type 0 where
   pub number : ℕ
   pub pid : ℕ
   pub transfer : ℕ
+  pub lane : ℕ
   pub address : ℕ
   pub endpoint : ℕ
   pub direction : ℕ
@@ -51,6 +65,7 @@ outcomeOf r =
             number = r .reply .number;
             pid = r .reply .pid;
             transfer = r .reply .transfer;
+            lane = r .reply .lane;
             address = r .reply .address;
             endpoint = r .reply .endpoint;
             direction = r .reply .direction;
@@ -62,11 +77,11 @@ outcomeOf r =
 
 -- a number alone
 abbrev pub plainAnswer : ℕ → Answer
-plainAnswer n = record { number = n; pid = 0; transfer = 0; address = 0; endpoint = 0; direction = 0; lowspeed = 0; toggle = 0; bytes = [] }
+plainAnswer n = record { number = n; pid = 0; transfer = 0; lane = 0; address = 0; endpoint = 0; direction = 0; lowspeed = 0; toggle = 0; bytes = [] }
 
 -- a number with a PID and bytes: data, or the device's handshake
 abbrev pub pidAnswer : ℕ → ℕ → List ℕ → Answer
-pidAnswer n p l = record { number = n; pid = p; transfer = 0; address = 0; endpoint = 0; direction = 0; lowspeed = 0; toggle = 0; bytes = l }
+pidAnswer n p l = record { number = n; pid = p; transfer = 0; lane = 0; address = 0; endpoint = 0; direction = 0; lowspeed = 0; toggle = 0; bytes = l }
 
 abbrev pub plain : Hub → ℕ → Outcome
 plain h n = record { next = h; answer = plainAnswer n }

@@ -1,5 +1,5 @@
--- Bench cases P1 to P13 of document 01, four ports, two buffers, and the three of its last line; then the cases of C-12.
--- A reader must believe: each row has the calls of its case on a new hub, and all that document 01, as C-12 corrects it, answers to each of them.
+-- Bench cases P1 to P13 of document 01, four ports, three buffers, in lane 0, and the three of its last line; then the cases of C-12 and of C-18.
+-- A reader must believe: each row has the calls of its case on a new hub, and all that document 01, as C-12 and C-18 correct it, answers to each of them.
 use Prim.Native.Nat.{ℕ}
 use mathlib.Core.Path.{_≡_}
 use mathlib.Core.Bool.{Bool, true, false, _&&_}
@@ -8,7 +8,7 @@ use lib.Dec.{eqb}
 use lib.ListN.{replicate}
 use Rattle.hub.specs.declared.Hub.{Hub}
 use Rattle.hub.specs.Hub.{newHub}
-use Rattle.hub.specs.Call.{Call, Control, Poll, Start, Complete, Launch, Deliver, Event, Tick, Answer, plainAnswer, pidAnswer}
+use Rattle.hub.specs.Call.{Call, Control, Poll, Start, Complete, Launch, Deliver, Event, Tick, BusReset, Answer, plainAnswer, pidAnswer}
 use Rattle.hub.specs.Step.{step}
 
 pub record Row : Type 0 where
@@ -16,27 +16,27 @@ pub record Row : Type 0 where
   -- of all calls, one by one
   pub answers : List Answer
 
--- four ports, two buffers; power-good, current and removable hexadecimal 32, 64, 00
-abbrev pub benchHub : Hub
-benchHub = newHub 4 2 0x32 0x64 0x00 .hub
+-- four ports, so many buffers; power-good, current and removable hexadecimal 32, 64, 00
+abbrev pub hubWith : ℕ → Hub
+hubWith buffers = newHub 4 buffers 0x32 0x64 0x00 .hub
 
 -- ---- calls and answers by their names
 
 -- setup bytes: type, request, wValue, wIndex, wLength, low bytes first
 abbrev pub setConfiguration1 : Call
-setConfiguration1 = Control (0x00 ∷ 0x09 ∷ 1 ∷ 0 ∷ 0 ∷ 0 ∷ 0 ∷ 0 ∷ []) 64
+setConfiguration1 = Control 0 (0x00 ∷ 0x09 ∷ 1 ∷ 0 ∷ 0 ∷ 0 ∷ 0 ∷ 0 ∷ []) 64
 
 abbrev pub getHubDescriptor : ℕ → Call
-getHubDescriptor length = Control (0xA0 ∷ 0x06 ∷ 0x00 ∷ 0x29 ∷ 0 ∷ 0 ∷ length ∷ 0 ∷ []) 64
+getHubDescriptor length = Control 0 (0xA0 ∷ 0x06 ∷ 0x00 ∷ 0x29 ∷ 0 ∷ 0 ∷ length ∷ 0 ∷ []) 64
 
 abbrev pub getPortStatus : ℕ → Call
-getPortStatus port = Control (0xA3 ∷ 0x00 ∷ 0 ∷ 0 ∷ port ∷ 0 ∷ 4 ∷ 0 ∷ []) 64
+getPortStatus port = Control 0 (0xA3 ∷ 0x00 ∷ 0 ∷ 0 ∷ port ∷ 0 ∷ 4 ∷ 0 ∷ []) 64
 
 abbrev pub setPortFeature : ℕ → ℕ → Call
-setPortFeature feature port = Control (0x23 ∷ 0x03 ∷ feature ∷ 0 ∷ port ∷ 0 ∷ 0 ∷ 0 ∷ []) 64
+setPortFeature feature port = Control 0 (0x23 ∷ 0x03 ∷ feature ∷ 0 ∷ port ∷ 0 ∷ 0 ∷ 0 ∷ []) 64
 
 abbrev pub clearPortFeature : ℕ → ℕ → Call
-clearPortFeature feature port = Control (0x23 ∷ 0x01 ∷ feature ∷ 0 ∷ port ∷ 0 ∷ 0 ∷ 0 ∷ []) 64
+clearPortFeature feature port = Control 0 (0x23 ∷ 0x01 ∷ feature ∷ 0 ∷ port ∷ 0 ∷ 0 ∷ 0 ∷ []) 64
 
 -- PORT_SUSPEND 2, PORT_RESET 4, PORT_POWER 8
 abbrev pub setSuspend : ℕ → Call
@@ -75,15 +75,28 @@ abbrev pub overCurrentOn : ℕ → Call
 overCurrentOn = Event 6
 
 -- a full-speed bulk start-split with toggle 0: PID IN 9, OUT 1; bulk 2
+abbrev pub startFrom : ℕ → ℕ → ℕ → Call
+startFrom lane address endpoint = Start lane 9 2 0 0 address endpoint []
+
 abbrev pub startIn : ℕ → ℕ → Call
-startIn address endpoint = Start 9 2 0 0 address endpoint []
+startIn = startFrom 0
 
 abbrev pub startOut : ℕ → ℕ → List ℕ → Call
-startOut = Start 1 2 0 0
+startOut = Start 0 1 2 0 0
 
 -- direction IN 1
+abbrev pub completeFrom : ℕ → ℕ → ℕ → Call
+completeFrom lane address endpoint = Complete lane address endpoint 1 64
+
 abbrev pub completeIn : ℕ → ℕ → Call
-completeIn address endpoint = Complete address endpoint 1 64
+completeIn = completeFrom 0
+
+-- ClearTTBuffer of the bulk IN endpoint (5,1), and ResetTT
+abbrev pub clearFrom : ℕ → Call
+clearFrom lane = Control lane (0x23 ∷ 0x08 ∷ 0x51 ∷ 0x90 ∷ 1 ∷ 0 ∷ 0 ∷ 0 ∷ []) 64
+
+abbrev pub resetFrom : ℕ → Call
+resetFrom lane = Control lane (0x23 ∷ 0x09 ∷ 0 ∷ 0 ∷ 1 ∷ 0 ∷ 0 ∷ 0 ∷ []) 64
 
 -- DATA0 3
 abbrev pub deliverData0 : List ℕ → Call
@@ -102,8 +115,11 @@ abbrev pub data0 : List ℕ → Answer
 data0 = pidAnswer 1 3
 
 -- a launched IN, with its PID, type, key, flag and toggle
+abbrev pub launchedFrom : ℕ → ℕ → ℕ → Answer
+launchedFrom z a e = record { number = 1; pid = 9; transfer = 2; lane = z; address = a; endpoint = e; direction = 1; lowspeed = 0; toggle = 0; bytes = [] }
+
 abbrev pub launchedIn : ℕ → ℕ → Answer
-launchedIn a e = record { number = 1; pid = 9; transfer = 2; address = a; endpoint = e; direction = 1; lowspeed = 0; toggle = 0; bytes = [] }
+launchedIn = launchedFrom 0
 
 -- this many times
 abbrev pub ticks : ℕ → List Call
@@ -120,7 +136,7 @@ after r cs rest = record { calls = r .calls ++ cs; answers = r .answers ++ rest 
 
 -- P1 new hub, poll: 5.
 abbrev pub p1 : Row
-p1 = record { calls = Poll 64 ∷ []; answers = plainAnswer 5 ∷ [] }
+p1 = record { calls = Poll 0 64 ∷ []; answers = plainAnswer 5 ∷ [] }
 
 -- P2 descriptor, power-good, current and removable hexadecimal 32, 64, 00: `09 29 04 09 00 32 64 00 FF`; length 0 is answer 1 with no bytes.
 abbrev pub p2 : Row
@@ -136,7 +152,7 @@ p3 = record { calls = setConfiguration1 ∷ setPower 2 ∷ getPortStatus 2 ∷ [
 
 -- P4 full attach: `01 01 01 00`, poll `04`.
 abbrev pub p4 : Row
-p4 = after p3 (attachFull 2 ∷ getPortStatus 2 ∷ Poll 64 ∷ []) (done ∷ bytes (0x01 ∷ 0x01 ∷ 0x01 ∷ 0x00 ∷ []) ∷ bytes (0x04 ∷ []) ∷ [])
+p4 = after p3 (attachFull 2 ∷ getPortStatus 2 ∷ Poll 0 64 ∷ []) (done ∷ bytes (0x01 ∷ 0x01 ∷ 0x01 ∷ 0x00 ∷ []) ∷ bytes (0x04 ∷ []) ∷ [])
 
 -- P5 low attach instead: `01 03 01 00`.
 abbrev pub p5 : Row
@@ -203,7 +219,7 @@ payload64 =
 
 -- Reply space 63 is 7.
 abbrev pub room63 : Row
-room63 = record { calls = setConfiguration1 ∷ Poll 63 ∷ Poll 64 ∷ []; answers = done ∷ plainAnswer 7 ∷ plainAnswer 3 ∷ [] }
+room63 = record { calls = setConfiguration1 ∷ Poll 0 63 ∷ Poll 0 64 ∷ []; answers = done ∷ plainAnswer 7 ∷ plainAnswer 3 ∷ [] }
 
 -- ---- C-12: detach and over-current no longer set C_PORT_ENABLE, which is bit 1 of the third status byte
 
@@ -231,11 +247,180 @@ errorReported =
     ∷ done ∷ bytes (0x00 ∷ 0x01 ∷ 0x13 ∷ 0x00 ∷ [])
     ∷ done ∷ bytes (0x00 ∷ 0x01 ∷ 0x11 ∷ 0x00 ∷ []) ∷ [])
 
+-- ---- C-18: two lanes
+
+-- one call and its answer after another
+abbrev pub row : List (Call × Answer) → Row
+row [] = record { calls = []; answers = [] }
+row (e ∷ es) = record { calls = e .0 ∷ row es .calls; answers = e .1 ∷ row es .answers }
+
+abbrev pub nak : Answer
+nak = plainAnswer 3
+
+abbrev pub stall : Answer
+stall = plainAnswer 2
+
+abbrev pub nyet : Answer
+nyet = plainAnswer 4
+
+-- Both lanes have (5,1): two keys, each with its own bytes; neither's data answers the other.
+abbrev pub twoKeys : Row
+twoKeys =
+    row
+    ((setConfiguration1, done)
+    ∷ (startFrom 0 5 1, done)
+    ∷ (completeFrom 1 5 1, stall)
+    ∷ (startFrom 1 5 1, done)
+    ∷ (Launch 64, launchedFrom 0 5 1)
+    ∷ (deliverData0 (0x10 ∷ []), done)
+    ∷ (completeFrom 1 5 1, nyet)
+    ∷ (Launch 64, launchedFrom 1 5 1)
+    ∷ (deliverData0 (0x11 ∷ 0x12 ∷ []), done)
+    ∷ (completeFrom 0 5 1, data0 (0x10 ∷ []))
+    ∷ (completeFrom 1 5 1, data0 (0x11 ∷ 0x12 ∷ []))
+    ∷ (completeFrom 0 5 1, data0 (0x10 ∷ [])) ∷ [])
+
+-- Three buffers. Lane 0 holds two: its limit, with a buffer empty; a repeat is still ACK; and lane 1, which takes the third, finds no buffer
+-- for another, below its own limit.
+abbrev pub limitReached : Row
+limitReached =
+    row
+    ((setConfiguration1, done)
+    ∷ (startFrom 0 5 1, done)
+    ∷ (startFrom 0 6 1, done)
+    ∷ (startFrom 0 7 1, nak)
+    ∷ (startFrom 0 5 1, done)
+    ∷ (startFrom 1 5 1, done)
+    ∷ (startFrom 1 6 1, nak) ∷ [])
+
+-- An old buffer doesn't count: with (5,1) old and (6,1) pending, (7,1) is stored, in the buffer that lane 1's ResetTT emptied. The lane is at
+-- its limit again: (5,1) is 3 in its own old buffer too, which still gives its bytes. Lane 1 takes that buffer, and lane 0's complete-split
+-- is STALL.
+abbrev pub oldBuffers : Row
+oldBuffers =
+    row
+    ((setConfiguration1, done)
+    ∷ (startFrom 1 9 1, done)
+    ∷ (startFrom 0 5 1, done)
+    ∷ (startFrom 0 6 1, done)
+    ∷ (Launch 64, launchedFrom 1 9 1)
+    ∷ (deliverData0 [], done)
+    ∷ (Launch 64, launchedFrom 0 5 1)
+    ∷ (deliverData0 (0x11 ∷ []), done)
+    ∷ (completeFrom 0 5 1, data0 (0x11 ∷ []))
+    ∷ (resetFrom 1, done)
+    ∷ (startFrom 0 7 1, done)
+    ∷ (startFrom 0 5 1, nak)
+    ∷ (completeFrom 0 5 1, data0 (0x11 ∷ []))
+    ∷ (startFrom 1 9 1, done)
+    ∷ (completeFrom 0 5 1, stall) ∷ [])
+
+-- ResetTT from lane 1 while lane 0's transaction runs: its own buffers are emptied, the transaction runs on and its result arrives.
+abbrev pub resetOther : Row
+resetOther =
+    row
+    ((setConfiguration1, done)
+    ∷ (startFrom 0 5 1, done)
+    ∷ (startFrom 1 5 1, done)
+    ∷ (Launch 64, launchedFrom 0 5 1)
+    ∷ (resetFrom 1, done)
+    ∷ (completeFrom 1 5 1, stall)
+    ∷ (completeFrom 0 5 1, nyet)
+    ∷ (deliverData0 (0x10 ∷ []), done)
+    ∷ (completeFrom 0 5 1, data0 (0x10 ∷ []))
+    ∷ (Launch 64, nak) ∷ [])
+
+-- ResetTT from lane 0 while its own runs: the low side stays occupied, through a second ResetTT too, until the delivery, which is thrown
+-- away; lane 1's start-split waits, and is launched then.
+abbrev pub resetOwn : Row
+resetOwn =
+    row
+    ((setConfiguration1, done)
+    ∷ (startFrom 0 5 1, done)
+    ∷ (startFrom 1 5 1, done)
+    ∷ (Launch 64, launchedFrom 0 5 1)
+    ∷ (resetFrom 0, done)
+    ∷ (completeFrom 0 5 1, stall)
+    ∷ (startFrom 0 5 1, done)
+    ∷ (Launch 64, plainAnswer 8)
+    ∷ (resetFrom 0, done)
+    ∷ (Launch 64, plainAnswer 8)
+    ∷ (deliverData0 (0x10 ∷ []), done)
+    ∷ (completeFrom 1 5 1, nyet)
+    ∷ (Launch 64, launchedFrom 1 5 1)
+    ∷ (deliverData0 (0x11 ∷ []), done)
+    ∷ (completeFrom 1 5 1, data0 (0x11 ∷ []))
+    ∷ (completeFrom 0 5 1, stall) ∷ [])
+
+-- ClearTTBuffer empties the buffer of the caller's lane alone.
+abbrev pub clearOwn : Row
+clearOwn =
+    row
+    ((setConfiguration1, done)
+    ∷ (startFrom 0 5 1, done)
+    ∷ (startFrom 1 5 1, done)
+    ∷ (clearFrom 1, done)
+    ∷ (completeFrom 1 5 1, stall)
+    ∷ (completeFrom 0 5 1, nyet) ∷ [])
+
+-- Bus reset and SetConfiguration act on both lanes and stop the low side at once.
+abbrev pub bothLanes : Row
+bothLanes =
+    row
+    ((setConfiguration1, done)
+    ∷ (startFrom 0 5 1, done)
+    ∷ (startFrom 1 5 1, done)
+    ∷ (Launch 64, launchedFrom 0 5 1)
+    ∷ (setConfiguration1, done)
+    ∷ (completeFrom 0 5 1, stall)
+    ∷ (completeFrom 1 5 1, stall)
+    ∷ (startFrom 1 5 1, done)
+    ∷ (Launch 64, launchedFrom 1 5 1)
+    ∷ (BusReset, done)
+    ∷ (setConfiguration1, done)
+    ∷ (completeFrom 1 5 1, stall)
+    ∷ (Launch 64, nak) ∷ [])
+
+-- Both lanes act on the one set of ports.
+abbrev pub onePortSet : Row
+onePortSet = after p3 (Poll 1 64 ∷ attachFull 2 ∷ Poll 0 64 ∷ Poll 1 64 ∷ []) (nak ∷ done ∷ bytes (0x04 ∷ []) ∷ bytes (0x04 ∷ []) ∷ [])
+
+-- A lane outside 0 and 1 is 6, also with wrong setup fields, a bad length, or on an unconfigured hub.
+abbrev pub noSuchLane : Row
+noSuchLane =
+    row
+    ((Poll 2 64, plainAnswer 6)
+    ∷ (setConfiguration1, done)
+    ∷ (Control 2 (0x00 ∷ 0x09 ∷ 0 ∷ 0 ∷ 0 ∷ 0 ∷ 0 ∷ 0 ∷ []) 64, plainAnswer 6)
+    ∷ (Control 2 (0xFF ∷ 0xFF ∷ 0 ∷ 0 ∷ 0 ∷ 0 ∷ 0 ∷ 0 ∷ []) 64, plainAnswer 6)
+    ∷ (Control 2 [] 64, plainAnswer 6)
+    ∷ (Poll 256 63, plainAnswer 6)
+    ∷ (startFrom 2 5 1, plainAnswer 6)
+    ∷ (completeFrom 2 5 1, plainAnswer 6) ∷ [])
+
+-- With two buffers each lane has one; the second of either is 3, whatever the other holds.
+abbrev pub oneEach : Row
+oneEach =
+    row
+    ((setConfiguration1, done)
+    ∷ (startFrom 1 5 1, done)
+    ∷ (startFrom 1 6 1, nak)
+    ∷ (startFrom 0 5 1, done)
+    ∷ (startFrom 0 6 1, nak)
+    ∷ (Launch 64, launchedFrom 1 5 1)
+    ∷ (deliverData0 (0x11 ∷ []), done)
+    ∷ (startFrom 1 6 1, nak)
+    ∷ (completeFrom 1 5 1, data0 (0x11 ∷ []))
+    ∷ (startFrom 1 6 1, done)
+    ∷ (completeFrom 1 5 1, stall) ∷ [])
+
+-- of a hub with three buffers
 abbrev pub table : List Row
 table =
     p1 ∷ p2 ∷ p3 ∷ p4 ∷ p5 ∷ p6 ∷ p7 ∷ p8 ∷ p8Late ∷ p9 ∷ p10 ∷ p11 ∷ p12 ∷ p13
     ∷ noSuchPort ∷ payload64 ∷ room63
-    ∷ unpluggedDisabled ∷ unpluggedEnabled ∷ unpluggedSuspended ∷ overCurrentResuming ∷ errorReported ∷ []
+    ∷ unpluggedDisabled ∷ unpluggedEnabled ∷ unpluggedSuspended ∷ overCurrentResuming ∷ errorReported
+    ∷ twoKeys ∷ limitReached ∷ oldBuffers ∷ resetOther ∷ resetOwn ∷ clearOwn ∷ bothLanes ∷ onePortSet ∷ noSuchLane ∷ []
 
 -- ---- the comparison
 
@@ -248,7 +433,7 @@ sameBytes (m ∷ ms) (n ∷ ns) = eqb m n && sameBytes ms ns
 -- field by field
 abbrev pub sameAnswer : Answer → Answer → Bool
 sameAnswer a b =
-    (eqb (a .number) (b .number) && (eqb (a .pid) (b .pid) && (eqb (a .transfer) (b .transfer) && eqb (a .address) (b .address))))
+    (eqb (a .number) (b .number) && (eqb (a .pid) (b .pid) && (eqb (a .transfer) (b .transfer) && (eqb (a .lane) (b .lane) && eqb (a .address) (b .address)))))
     && ((eqb (a .endpoint) (b .endpoint) && (eqb (a .direction) (b .direction) && (eqb (a .lowspeed) (b .lowspeed) && eqb (a .toggle) (b .toggle))))
     && sameBytes (a .bytes) (b .bytes))
 
@@ -259,10 +444,10 @@ holdsFrom h [] (a ∷ rest) = false
 holdsFrom h (c ∷ cs) [] = false
 holdsFrom h (c ∷ cs) (a ∷ rest) = let o = step h c in sameAnswer (o .answer) a && holdsFrom (o .next) cs rest
 
-abbrev pub allHold : List Row → Bool
-allHold [] = true
-allHold (r ∷ rs) = holdsFrom benchHub (r .calls) (r .answers) && allHold rs
+abbrev pub allHold : Hub → List Row → Bool
+allHold h [] = true
+allHold h (r ∷ rs) = holdsFrom h (r .calls) (r .answers) && allHold h rs
 
--- every row of the table holds
+-- every row of the table holds, and the one of two buffers
 abbrev pub BenchCases : Type 0
-BenchCases = allHold table ≡ true
+BenchCases = (allHold (hubWith 3) table && allHold (hubWith 2) (oneEach ∷ [])) ≡ true

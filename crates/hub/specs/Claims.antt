@@ -2,12 +2,13 @@
 use Prim.Native.Nat.{ℕ, _≤_}
 use mathlib.Core.Path.{_≡_}
 use mathlib.Core.Bool.{true}
+use mathlib.Core.Option.{some}
 use mathlib.Core.List.{[]}
 use lib.ListN.{length}
 use Rattle.translator.specs.Answers.{isRefusal}
 use Rattle.hub.specs.declared.Hub.{Hub}
 use Rattle.hub.specs.Hub.{newFits, hubOf}
-use Rattle.hub.specs.Call.{Call, refuse}
+use Rattle.hub.specs.Call.{Call, laneOf, refuse}
 use Rattle.hub.specs.Step.{step}
 use Rattle.hub.specs.Valid.{ValidHub}
 
@@ -20,6 +21,8 @@ pub record HubClaims : Type 0 where
   -- no call changes what the hub was made from
   pub identity-kept : (h : Hub) (c : Call) → step h c .next .identity ≡ h .identity
   pub buffers-kept : (h : Hub) (c : Call) → step h c .next .translator .count ≡ h .translator .count
+  -- a lane outside 0 and 1 is 6, whatever else is wrong with the call
+  pub no-such-lane : (h : Hub) (c : Call) (z : ℕ) → laneOf c ≡ some z → 2 ≤ z → step h c ≡ refuse 6 h
   -- only data has bytes, and they fit in a reply space of 64
   pub bytes-of-data : (h : Hub) (c : Call) → ¬ (step h c .answer .number ≡ 1) → step h c .answer .bytes ≡ []
   pub bytes-fit : (h : Hub) → ValidHub h → (c : Call) → length (step h c .answer .bytes) ≤ 64

@@ -9,8 +9,12 @@ use Rattle.port.specs.declared.ClearableFeature.{ClearableFeature}
 use Rattle.port.specs.Status.{bit, statusBytes}
 use Rattle.port.specs.Features.{featureSet, featureCleared}
 use Rattle.ports.specs.Ports.{portAt}
-use Rattle.translator.specs.Translator.{emptied}
+use Rattle.buffer.specs.declared.Lane.{Lane}
+use Rattle.buffer.specs.declared.Key.{Key}
+use Rattle.buffer.specs.Key.{keyWith}
 use Rattle.translator.specs.Clear.{clearBuffer}
+use Rattle.translator.specs.ResetLane.{resetLane}
+use Rattle.request.specs.declared.Pipe.{Pipe}
 use Rattle.request.specs.declared.Request.{Request}
 use Rattle.request.specs.declared.Request.the-variants.{Wrong, SetConfiguration, GetConfiguration, GetHubDescriptor, GetHubStatus, GetPortStatus, ClearHubFeature, ClearPortFeature, SetPortFeature, ClearTTBuffer, ResetTT}
 use Rattle.hub.specs.declared.Identity.{Identity}
@@ -28,22 +32,27 @@ setFeature h n f = withPortAt h n (featureSet (portAt (h .ports) n) f)
 abbrev pub clearFeature : Hub → PortNumber → ClearableFeature → Hub
 clearFeature h n f = withPortAt h n (featureCleared (portAt (h .ports) n) f)
 
-abbrev pub byRequest : Hub → Request → Outcome
-byRequest h (Wrong f) = refuse 2 h
-byRequest h (SetConfiguration on) = done (configuredAs on h)
-byRequest h GetConfiguration = gives h (bit (h .configured) ∷ [])
+-- a key of the lane that asks
+abbrev pub keyed : Lane → Pipe → Key
+keyed z p = keyWith z (p .address) (p .endpoint) (p .direction)
+
+-- a request from the lane z
+abbrev pub byRequest : Hub → Lane → Request → Outcome
+byRequest h z (Wrong f) = refuse 2 h
+byRequest h z (SetConfiguration on) = done (configuredAs on h)
+byRequest h z GetConfiguration = gives h (bit (h .configured) ∷ [])
 -- cut to wLength
-byRequest h (GetHubDescriptor n) = gives h (take n (descriptor (h .identity)))
+byRequest h z (GetHubDescriptor n) = gives h (take n (descriptor (h .identity)))
 -- length 4; four zeros
-byRequest h GetHubStatus = gives h (0 ∷ 0 ∷ 0 ∷ 0 ∷ [])
-byRequest h (GetPortStatus n) = gives h (statusBytes (portAt (h .ports) n))
+byRequest h z GetHubStatus = gives h (0 ∷ 0 ∷ 0 ∷ 0 ∷ [])
+byRequest h z (GetPortStatus n) = gives h (statusBytes (portAt (h .ports) n))
 -- 0 or 1; no effect
-byRequest h ClearHubFeature = done h
-byRequest h (ClearPortFeature n f) = done (clearFeature h n f)
-byRequest h (SetPortFeature n f) = done (setFeature h n f)
-byRequest h (ClearTTBuffer k) = done (withTranslator h (clearBuffer (h .translator) k))
--- empties the translator
-byRequest h ResetTT = done (withTranslator h (emptied (h .translator)))
+byRequest h z ClearHubFeature = done h
+byRequest h z (ClearPortFeature n f) = done (clearFeature h n f)
+byRequest h z (SetPortFeature n f) = done (setFeature h n f)
+byRequest h z (ClearTTBuffer k) = done (withTranslator h (clearBuffer (h .translator) (keyed z k)))
+-- empties that lane's buffers and abandons its running transaction as a clear does
+byRequest h z ResetTT = done (withTranslator h (resetLane (h .translator) z))
 
 -- the first three
 abbrev pub servedAlways : Request → Bool
@@ -60,5 +69,5 @@ servedAlways (ClearTTBuffer k) = false
 servedAlways ResetTT = false
 
 -- Anything else is 2. Unconfigured, only the first three are served; others are 2.
-unfoldable pub requested : Hub → Request → Outcome
-requested h r = cond (h .configured || servedAlways r) (byRequest h r) (refuse 2 h)
+unfoldable pub requested : Hub → Lane → Request → Outcome
+requested h z r = cond (h .configured || servedAlways r) (byRequest h z r) (refuse 2 h)

@@ -22,7 +22,7 @@ use Rattle.translator.specs.declared.Launched.{Launched}
 use Rattle.translator.specs.declared.LaunchAnswer.{LaunchAnswer}
 use Rattle.translator.specs.declared.LaunchAnswer.the-variants.{NothingPending, Occupied, Launches}
 use Rattle.translator.specs.declared.Delivered.{Delivered}
-use Rattle.translator.specs.Answers.{startNumber, resultNumber, resultPid, pidNumber, deliverNumber}
+use Rattle.translator.specs.Answers.{startNumber, resultNumber, resultPid, laneNumber, pidNumber, deliverNumber}
 use Rattle.numbers.specs.Written.{typeNumber, directionNumber}
 use Rattle.hub.specs.declared.Hub.{Hub}
 use Rattle.hub.specs.Hub.{withPortAt, withTranslator}
@@ -53,6 +53,7 @@ launchAnswer s l =
       number = 1;
       pid = pidNumber (s .pid);
       transfer = typeNumber (s .transfer);
+      lane = laneNumber (s .lane);
       address = s .address .0;
       endpoint = s .endpoint;
       direction = directionNumber (directionOf (s .pid));

@@ -12,7 +12,7 @@ use Rattle.translator.specs.Launch.{launch}
 use Rattle.translator.specs.Deliver.{deliver}
 use Rattle.translator.specs.Answers.{launchNumber, deliverNumber}
 use Rattle.request.specs.Request.{requestOf}
-use Rattle.numbers.specs.Named.{isResult, resultFrom, isEvent, eventFrom, portNamed}
+use Rattle.numbers.specs.Named.{isResult, resultFrom, isEvent, eventFrom, portNamed, isLane, laneFrom}
 use Rattle.numbers.specs.Split.{splitNamed, splitFrom, keyNamed, keyFrom}
 use Rattle.hub.specs.declared.Hub.{Hub}
 use Rattle.hub.specs.Hub.{tickedHub, resetHub}
@@ -22,13 +22,13 @@ use Rattle.hub.specs.Rules.{polled, startedAs, completedAs, launchedAs, 
 
 -- 6 a number or length outside the rules: unless
 unfoldable pub within : Hub → Call → Bool
--- Setup bytes are exactly 8, else 6.
-within h (Control s room) = eqb (length s) 8
-within h (Poll room) = true
+-- Setup bytes are exactly 8, else 6. A lane outside 0 and 1 is 6.
+within h (Control z s room) = eqb (length s) 8 && isLane z
+within h (Poll z room) = isLane z
 -- An event, PID, type, direction or result number that isn't named here, or a flag or toggle above 1, is 6. IN carries none, SETUP is
 -- control with 8 bytes, else 6.
-within h (Start p t f g a e l) = splitNamed p t f g a e && startFits (splitFrom p t f g a e) (length l)
-within h (Complete a e d room) = keyNamed a e d
+within h (Start z p t f g a e l) = splitNamed z p t f g a e && startFits (splitFrom z p t f g a e) (length l)
+within h (Complete z a e d room) = keyNamed z a e d
 within h (Launch room) = true
 -- Payload over 64, or on a result that isn't data: 6.
 within h (Deliver r l) = isResult r && resultLength (resultFrom r) (length l)
@@ -38,10 +38,10 @@ within h BusReset = true
 
 -- 7 reply space under 64 bytes: unless. Calls that can write take reply space: control request, poll, launch, complete-split.
 unfoldable pub roomy : Call → Bool
-roomy (Control s room) = leb 64 room
-roomy (Poll room) = leb 64 room
-roomy (Start p t f g a e l) = true
-roomy (Complete a e d room) = leb 64 room
+roomy (Control z s room) = leb 64 room
+roomy (Poll z room) = leb 64 room
+roomy (Start z p t f g a e l) = true
+roomy (Complete z a e d room) = leb 64 room
 roomy (Launch room) = leb 64 room
 roomy (Deliver r l) = true
 roomy (Event e n) = true
@@ -50,10 +50,10 @@ roomy BusReset = true
 
 -- 5 silent, hub unconfigured: unless. On an unconfigured hub poll, launch, deliver and both splits answer 5; control requests never do.
 unfoldable pub heard : Hub → Call → Bool
-heard h (Control s room) = true
-heard h (Poll room) = h .configured
-heard h (Start p t f g a e l) = h .configured
-heard h (Complete a e d room) = h .configured
+heard h (Control z s room) = true
+heard h (Poll z room) = h .configured
+heard h (Start z p t f g a e l) = h .configured
+heard h (Complete z a e d room) = h .configured
 heard h (Launch room) = h .configured
 heard h (Deliver r l) = h .configured
 heard h (Event e n) = true
@@ -62,10 +62,10 @@ heard h BusReset = true
 
 -- 8 not in this state: unless. Line events on an unconfigured hub answer 8.
 unfoldable pub fitting : Hub → Call → Bool
-fitting h (Control s room) = true
-fitting h (Poll room) = true
-fitting h (Start p t f g a e l) = true
-fitting h (Complete a e d room) = true
+fitting h (Control z s room) = true
+fitting h (Poll z room) = true
+fitting h (Start z p t f g a e l) = true
+fitting h (Complete z a e d room) = true
 fitting h (Launch room) = not (eqb (launchNumber (launch (h .translator) .answer)) 8)
 fitting h (Deliver r l) = not (eqb (deliverNumber (deliver (h .translator) (resultFrom r) l .answer)) 8)
 fitting h (Event e n) = h .configured && not (eqb (lineEvent (portAt (h .ports) (record { 0 = n })) (eventFrom e) .number) 8)
@@ -74,10 +74,10 @@ fitting h BusReset = true
 
 -- then the call's own rule
 unfoldable pub served : Hub → Call → Outcome
-served h (Control s room) = requested h (requestOf (h .identity .ports) s)
-served h (Poll room) = polled h
-served h (Start p t f g a e l) = startedAs h (startSplit (h .translator) (splitFrom p t f g a e) l)
-served h (Complete a e d room) = completedAs h (completeSplit (h .translator) (keyFrom a e d))
+served h (Control z s room) = requested h (laneFrom z) (requestOf (h .identity .ports) s)
+served h (Poll z room) = polled h
+served h (Start z p t f g a e l) = startedAs h (startSplit (h .translator) (splitFrom z p t f g a e) l)
+served h (Complete z a e d room) = completedAs h (completeSplit (h .translator) (keyFrom z a e d))
 served h (Launch room) = launchedAs h (launch (h .translator))
 served h (Deliver r l) = deliveredAs h (deliver (h .translator) (resultFrom r) l)
 served h (Event e n) = eventAt h (eventFrom e) (record { 0 = n })

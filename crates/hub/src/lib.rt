@@ -3,17 +3,21 @@
 ghost use mathlib.Core.Path.{_≡_};
 ghost use Prim.Native.Nat.{_+_, _≤_, _^_, min};
 ghost use Rattle.payload.specs.Payload.{content};
+ghost use lib.ListN.{take};
 ghost use Rattle.port.specs.Reaction.{numberOf};
+ghost use Rattle.port.specs.Status.{statusBytes};
 ghost use Rattle.ports.specs.Ports.{portAt};
 ghost use Rattle.ports.specs.Sweep.{swept};
 ghost use Rattle.hub.specs.Hub.{newFits, hubOf, newHub, withPorts, withTranslator, withPortAt, configurationSweep, configuredAs};
 ghost use Rattle.hub.specs.Call.{outcomeOf, plain, gives, pidAnswer};
 ghost use Rattle.hub.specs.Call.Call.{Control, Poll, Start, Complete, Launch, Deliver, Event, Tick, BusReset};
-ghost use Rattle.hub.specs.Requests.{setFeature, clearFeature, byRequest, servedAlways, requested};
+ghost use Rattle.hub.specs.Requests.{descriptor, keyed, setFeature, clearFeature, byRequest, servedAlways, requested};
 ghost use Rattle.hub.specs.Rules.{completedAs, launchAnswer, launchedAs};
 ghost use Rattle.hub.specs.Step.{firstRefusal, step};
 ghost use Rattle.hub.specs.Claims.{HubClaims};
 ghost use Rattle.hub.specs.Cases.{BenchCases};
+use buffer::Key;
+use buffer::Lane;
 use buffer::StartSplit;
 use payload::Payload;
 use port::ClearableFeature;
@@ -22,6 +26,7 @@ use port::Port;
 use port::PortNumber;
 use port::SettableFeature;
 use ports::Sweep;
+use request::Pipe;
 use request::Request;
 use translator::CompleteAnswer;
 use translator::Completed;
@@ -56,6 +61,7 @@ pub struct Reply {
     pub number: u8,
     pub pid: u8,
     pub transfer: u8,
+    pub lane: u8,
     pub address: u8,
     pub endpoint: u8,
     pub direction: u8,
@@ -89,6 +95,7 @@ fn reply_pid(hub: Hub, number: u8, pid: u8, payload: Payload) -> Stepped
             number,
             pid,
             transfer: 0,
+            lane: 0,
             address: 0,
             endpoint: 0,
             direction: 0,
@@ -112,12 +119,14 @@ fn give_launch(hub: Hub, split: StartSplit, payload: Payload) -> Stepped
 {
     let pid = split.pid;
     let transfer = split.transfer;
+    let lane = split.lane;
     Stepped {
         hub,
         reply: Reply {
             number: 1,
             pid: numbers::pid_number(pid),
             transfer: numbers::type_number(transfer),
+            lane: numbers::lane_number(lane),
             address: split.address.0,
             endpoint: split.endpoint,
             direction: numbers::direction_number(pid.direction()),
@@ -313,6 +322,15 @@ fn is_served_always(request: Request) -> bool
     }
 }
 
+// A key of the lane that asks.
+fn keyed(lane: Lane, pipe: Pipe) -> Key
+    ensures { λ r. ⌜ r ≡ keyed lane pipe ⌝ }
+{
+    let address = pipe.address;
+    let direction = pipe.direction;
+    Key::new(lane, address, pipe.endpoint, direction)
+}
+
 fn cut(n: u16) -> usize
     ensures { λ r. ⌜ r ≡ min n 9 ⌝ }
 {
@@ -321,7 +339,7 @@ fn cut(n: u16) -> usize
 
 impl Hub {
     fn get_descriptor(self, length: u16) -> Stepped
-        ensures { λ r. ⌜ outcomeOf r ≡ byRequest self (Request.GetHubDescriptor length) ⌝ }
+        ensures { λ r. ⌜ outcomeOf r ≡ gives self (take length (descriptor (self .identity))) ⌝ }
     {
         let identity = self.identity;
         let bytes = [
@@ -340,7 +358,7 @@ impl Hub {
     }
 
     fn get_port_status(self, n: PortNumber) -> Stepped
-        ensures { λ r. ⌜ outcomeOf r ≡ byRequest self (Request.GetPortStatus n) ⌝ }
+        ensures { λ r. ⌜ outcomeOf r ≡ gives self (statusBytes (portAt (self .ports) n)) ⌝ }
     {
         let status = self.port(n).status();
         give_data(self, Payload::of(&status))
@@ -358,8 +376,8 @@ impl Hub {
         self.with_port(n, self.port(n).set_feature(feature))
     }
 
-    fn by_request(self, request: Request) -> Stepped
-        ensures { λ r. ⌜ outcomeOf r ≡ byRequest self request ⌝ }
+    fn by_request(self, lane: Lane, request: Request) -> Stepped
+        ensures { λ r. ⌜ outcomeOf r ≡ byRequest self lane request ⌝ }
     {
         let translator = self.translator;
         match request {
@@ -375,19 +393,19 @@ impl Hub {
             Request::ClearHubFeature => answer(self, 0),
             Request::ClearPortFeature(n, feature) => answer(self.clear_feature(n, feature), 0),
             Request::SetPortFeature(n, feature) => answer(self.set_feature(n, feature), 0),
-            Request::ClearTTBuffer(key) => answer(
-                self.with_translator(translator.clear_buffer(key)),
+            Request::ClearTTBuffer(pipe) => answer(
+                self.with_translator(translator.clear_buffer(keyed(lane, pipe))),
                 0,
             ),
-            Request::ResetTT => answer(self.with_translator(translator.empty()), 0),
+            Request::ResetTT => answer(self.with_translator(translator.reset_lane(lane)), 0),
         }
     }
 
-    fn serve(self, request: Request) -> Stepped
-        ensures { λ r. ⌜ outcomeOf r ≡ requested self request ⌝ }
+    fn serve(self, lane: Lane, request: Request) -> Stepped
+        ensures { λ r. ⌜ outcomeOf r ≡ requested self lane request ⌝ }
     {
         if logic::either(self.configured, is_served_always(request)) {
-            return self.by_request(request);
+            return self.by_request(lane, request);
         }
         answer(self, 2)
     }
@@ -396,10 +414,15 @@ impl Hub {
 // ---- the calls
 
 impl Hub {
-    pub fn control(self, setup: &[u8], room: usize) -> Stepped
-        ensures { λ r. ⌜ outcomeOf r ≡ step self (Control (now (setup .entry)) room) ⌝ }
+    pub fn control(self, lane: u32, setup: &[u8], room: usize) -> Stepped
+        ensures { λ r. ⌜ outcomeOf r ≡ step self (Control lane (now (setup .entry)) room) ⌝ }
     {
-        let refusal = first_refusal(setup.len() == 8, 64 <= room, true, true);
+        let refusal = first_refusal(
+            logic::both(setup.len() == 8, numbers::is_lane(lane)),
+            64 <= room,
+            true,
+            true,
+        );
         if setup.len() != 8 {
             return answer(self, refusal);
         }
@@ -416,14 +439,17 @@ impl Hub {
             setup[6],
             setup[7],
         ];
-        self.serve(request::read(bytes, self.identity.ports))
+        self.serve(
+            numbers::lane_of(lane),
+            request::read(bytes, self.identity.ports),
+        )
     }
 
-    pub fn poll(self, room: usize) -> Stepped
-        ensures { λ r. ⌜ outcomeOf r ≡ step self (Poll room) ⌝ }
+    pub fn poll(self, lane: u32, room: usize) -> Stepped
+        ensures { λ r. ⌜ outcomeOf r ≡ step self (Poll lane room) ⌝ }
     {
         let ports = self.ports;
-        let refusal = first_refusal(true, 64 <= room, self.configured, true);
+        let refusal = first_refusal(numbers::is_lane(lane), 64 <= room, self.configured, true);
         if refusal != 0 {
             return answer(self, refusal);
         }
@@ -436,6 +462,7 @@ impl Hub {
 
     pub fn start_split(
         self,
+        lane: u32,
         pid: u32,
         transfer: u32,
         lowspeed: u32,
@@ -444,11 +471,11 @@ impl Hub {
         endpoint: u32,
         payload: &[u8],
     ) -> Stepped
-        ensures { λ r. ⌜ outcomeOf r ≡ step self (Start pid transfer lowspeed toggle address endpoint (now (payload .entry))) ⌝ }
+        ensures { λ r. ⌜ outcomeOf r ≡ step self (Start lane pid transfer lowspeed toggle address endpoint (now (payload .entry))) ⌝ }
     {
         let translator = self.translator;
-        let split = numbers::split_of(pid, transfer, lowspeed, toggle, address, endpoint);
-        let named = numbers::split_named(pid, transfer, lowspeed, toggle, address, endpoint);
+        let split = numbers::split_of(lane, pid, transfer, lowspeed, toggle, address, endpoint);
+        let named = numbers::split_named(lane, pid, transfer, lowspeed, toggle, address, endpoint);
         let within = logic::both(named, split.fits(payload.len()));
         let refusal = first_refusal(within, true, self.configured, true);
         if refusal != 0 {
@@ -460,16 +487,28 @@ impl Hub {
         answer(self.with_translator(next), numbers::start_answer(said))
     }
 
-    pub fn complete_split(self, address: u32, endpoint: u32, direction: u32, room: usize) -> Stepped
-        ensures { λ r. ⌜ outcomeOf r ≡ step self (Complete address endpoint direction room) ⌝ }
+    pub fn complete_split(
+        self,
+        lane: u32,
+        address: u32,
+        endpoint: u32,
+        direction: u32,
+        room: usize,
+    ) -> Stepped
+        ensures { λ r. ⌜ outcomeOf r ≡ step self (Complete lane address endpoint direction room) ⌝ }
     {
         let translator = self.translator;
-        let named = numbers::key_named(address, endpoint, direction);
+        let named = numbers::key_named(lane, address, endpoint, direction);
         let refusal = first_refusal(named, 64 <= room, self.configured, true);
         if refusal != 0 {
             return answer(self, refusal);
         }
-        self.completed(translator.complete_split(numbers::key_of(address, endpoint, direction)))
+        self.completed(translator.complete_split(numbers::key_of(
+            lane,
+            address,
+            endpoint,
+            direction,
+        )))
     }
 
     fn completed(self, o: Completed) -> Stepped

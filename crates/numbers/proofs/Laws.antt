@@ -6,6 +6,8 @@ use mathlib.Core.Logic.{_↔_}
 use native.Mathlib.Omega.{arith}
 use lib.Dec.{eqb, leb, ltb}
 use borrow.Author.Tests.{eqb-true, leb-true, ltb-true, le-leb, lt-ltb}
+use Rattle.buffer.specs.declared.Lane.{Lane}
+use Rattle.buffer.specs.declared.Lane.the-variants.{Zero, One}
 use Rattle.buffer.specs.declared.Pid.{Pid}
 use Rattle.buffer.specs.declared.Pid.the-variants as pid
 use Rattle.buffer.specs.declared.TransferType.{TransferType}
@@ -19,9 +21,9 @@ use Rattle.buffer.specs.declared.Key.{Key}
 use Rattle.port.specs.declared.LineEvent.{LineEvent}
 use Rattle.port.specs.declared.LineEvent.the-variants.{AttachLow, AttachFull, Detach, Chirp, Wake, PortError, OverCurrentOn, OverCurrentOff}
 use Rattle.port.specs.Status.{bit}
-use Rattle.translator.specs.Answers.{pidNumber}
+use Rattle.translator.specs.Answers.{laneNumber, pidNumber}
 use Rattle.numbers.specs.Written.{typeNumber, directionNumber, resultWritten, eventNumber}
-use Rattle.numbers.specs.Named.{isPid, pidFrom, isType, typeFrom, isResult, resultFrom, isDirection, directionFrom, isEvent, eventFrom, isFlag, flagFrom, portNamed}
+use Rattle.numbers.specs.Named.{isPid, pidFrom, isType, typeFrom, isResult, resultFrom, isDirection, directionFrom, isLane, laneFrom, isEvent, eventFrom, isFlag, flagFrom, portNamed}
 use Rattle.numbers.specs.Split.{splitNamed, splitFrom, keyNamed, keyFrom}
 use Rattle.numbers.specs.Claims.{Naming, SplitHas, KeyHas, NumbersClaims}
 
@@ -33,6 +35,20 @@ by-either false b h f g = g h
 -- the number comes back of what n names, if it does at m and n is m
 back-at : {X : Type 0} (from : ℕ → X) (number : X → ℕ) (m n : ℕ) → number (from m) ≡ m → eqb n m ≡ true → number (from n) ≡ n
 back-at from number m n p e = subst (λ (k : ℕ). number (from k) ≡ k) (sym (eqb-true n m e)) p
+
+lanes : Naming Lane isLane laneFrom laneNumber
+lanes = record { named = named; value-back = back; number-back = number-back }
+  where
+    named : (l : Lane) → isLane (laneNumber l) ≡ true
+    named Zero = refl
+    named One = refl
+
+    back : (l : Lane) → laneFrom (laneNumber l) ≡ l
+    back Zero = refl
+    back One = refl
+
+    number-back : (n : ℕ) → isLane n ≡ true → laneNumber (laneFrom n) ≡ n
+    number-back n h = by-either (eqb n 0) (eqb n 1) h (back-at laneFrom laneNumber 0 n refl) (back-at laneFrom laneNumber 1 n refl)
 
 pids : Naming Pid isPid pidFrom pidNumber
 pids = record { named = named; value-back = back; number-back = number-back }
@@ -171,15 +187,17 @@ low-7 a h = omega (arith, ltb-true a 128 h)
 low-4 : (e : ℕ) → ltb e 16 ≡ true → e % 16 ≡ e
 low-4 e h = omega (arith, ltb-true e 16 h)
 
-split-back : (p t l g a e : ℕ) → splitNamed p t l g a e ≡ true → SplitHas (splitFrom p t l g a e) p t l g a e
+split-back : (z p t l g a e : ℕ) → splitNamed z p t l g a e ≡ true → SplitHas (splitFrom z p t l g a e) z p t l g a e
 unfolding splitNamed splitFrom
-split-back p t l g a e h =
-    let x = and-eq-true-iff (isPid p && isType t) ((isFlag l && isFlag g) && (ltb a 128 && ltb e 16)) .0 h in
+split-back z p t l g a e h =
+    let w = and-eq-true-iff (isLane z) ((isPid p && isType t) && ((isFlag l && isFlag g) && (ltb a 128 && ltb e 16))) .0 h in
+    let x = and-eq-true-iff (isPid p && isType t) ((isFlag l && isFlag g) && (ltb a 128 && ltb e 16)) .0 (w .1) in
     let kind = and-eq-true-iff (isPid p) (isType t) .0 (x .0) in
     let y = and-eq-true-iff (isFlag l && isFlag g) (ltb a 128 && ltb e 16) .0 (x .1) in
     let flag = and-eq-true-iff (isFlag l) (isFlag g) .0 (y .0) in
     let device = and-eq-true-iff (ltb a 128) (ltb e 16) .0 (y .1) in
     record {
+      lane-number = lanes .number-back z (w .0);
       pid-number = pids .number-back p (kind .0);
       type-number = types .number-back t (kind .1);
       low-speed-flag = flags .number-back l (flag .0);
@@ -188,27 +206,30 @@ split-back p t l g a e h =
       endpoint-number = low-4 e (device .1);
     }
 
-key-back : (a e d : ℕ) → keyNamed a e d ≡ true → KeyHas (keyFrom a e d) a e d
+key-back : (z a e d : ℕ) → keyNamed z a e d ≡ true → KeyHas (keyFrom z a e d) z a e d
 unfolding keyNamed keyFrom
-key-back a e d h =
-    let x = and-eq-true-iff (ltb a 128 && ltb e 16) (isDirection d) .0 h in
+key-back z a e d h =
+    let w = and-eq-true-iff (isLane z) ((ltb a 128 && ltb e 16) && isDirection d) .0 h in
+    let x = and-eq-true-iff (ltb a 128 && ltb e 16) (isDirection d) .0 (w .1) in
     let device = and-eq-true-iff (ltb a 128) (ltb e 16) .0 (x .0) in
     record {
+      lane-number = lanes .number-back z (w .0);
       address-number = low-7 a (device .0);
       endpoint-number = low-4 e (device .1);
       direction-number = directions .number-back d (x .1);
     }
 
 split-named : (s : StartSplit) → s .address .0 < 128 → s .endpoint < 16
-    → splitNamed (pidNumber (s .pid)) (typeNumber (s .transfer)) (bit (s .lowspeed)) (bit (s .toggle)) (s .address .0) (s .endpoint) ≡ true
+    → splitNamed (laneNumber (s .lane)) (pidNumber (s .pid)) (typeNumber (s .transfer)) (bit (s .lowspeed)) (bit (s .toggle)) (s .address .0) (s .endpoint) ≡ true
 unfolding splitNamed
 split-named s h g =
-    rw (pids .named (s .pid), types .named (s .transfer), flags .named (s .lowspeed), flags .named (s .toggle), lt-ltb (s .address .0) 128 h, lt-ltb (s .endpoint) 16 g)
+    rw (lanes .named (s .lane), pids .named (s .pid), types .named (s .transfer), flags .named (s .lowspeed), flags .named (s .toggle), lt-ltb (s .address .0) 128 h, lt-ltb (s .endpoint) 16 g)
 
 split-value : (s : StartSplit) → s .address .0 < 128 → s .endpoint < 16
-    → splitFrom (pidNumber (s .pid)) (typeNumber (s .transfer)) (bit (s .lowspeed)) (bit (s .toggle)) (s .address .0) (s .endpoint) ≡ s
+    → splitFrom (laneNumber (s .lane)) (pidNumber (s .pid)) (typeNumber (s .transfer)) (bit (s .lowspeed)) (bit (s .toggle)) (s .address .0) (s .endpoint) ≡ s
 unfolding splitFrom
 split-value s h g = λ i. record {
+  lane = lanes .value-back (s .lane) i;
   pid = pids .value-back (s .pid) i;
   transfer = types .value-back (s .transfer) i;
   lowspeed = flags .value-back (s .lowspeed) i;
@@ -217,13 +238,14 @@ split-value s h g = λ i. record {
   endpoint = low-4 (s .endpoint) (lt-ltb (s .endpoint) 16 g) i;
 }
 
-key-named : (k : Key) → k .address .0 < 128 → k .endpoint < 16 → keyNamed (k .address .0) (k .endpoint) (directionNumber (k .direction)) ≡ true
+key-named : (k : Key) → k .address .0 < 128 → k .endpoint < 16 → keyNamed (laneNumber (k .lane)) (k .address .0) (k .endpoint) (directionNumber (k .direction)) ≡ true
 unfolding keyNamed
-key-named k h g = rw (lt-ltb (k .address .0) 128 h, lt-ltb (k .endpoint) 16 g, directions .named (k .direction))
+key-named k h g = rw (lanes .named (k .lane), lt-ltb (k .address .0) 128 h, lt-ltb (k .endpoint) 16 g, directions .named (k .direction))
 
-key-value : (k : Key) → k .address .0 < 128 → k .endpoint < 16 → keyFrom (k .address .0) (k .endpoint) (directionNumber (k .direction)) ≡ k
+key-value : (k : Key) → k .address .0 < 128 → k .endpoint < 16 → keyFrom (laneNumber (k .lane)) (k .address .0) (k .endpoint) (directionNumber (k .direction)) ≡ k
 unfolding keyFrom
 key-value k h g = λ i. record {
+  lane = lanes .value-back (k .lane) i;
   address = record { 0 = low-7 (k .address .0) (lt-ltb (k .address .0) 128 h) i };
   endpoint = low-4 (k .endpoint) (lt-ltb (k .endpoint) 16 g) i;
   direction = directions .value-back (k .direction) i;
@@ -241,25 +263,26 @@ below-128 a = omega arith
 below-16 : (e : ℕ) → e % 16 < 16
 below-16 e = omega arith
 
-split-address : (p t l g a e : ℕ) → splitFrom p t l g a e .address .0 < 128
+split-address : (z p t l g a e : ℕ) → splitFrom z p t l g a e .address .0 < 128
 unfolding splitFrom
-split-address p t l g a e = below-128 a
+split-address z p t l g a e = below-128 a
 
-split-endpoint : (p t l g a e : ℕ) → splitFrom p t l g a e .endpoint < 16
+split-endpoint : (z p t l g a e : ℕ) → splitFrom z p t l g a e .endpoint < 16
 unfolding splitFrom
-split-endpoint p t l g a e = below-16 e
+split-endpoint z p t l g a e = below-16 e
 
-key-address : (a e d : ℕ) → keyFrom a e d .address .0 < 128
+key-address : (z a e d : ℕ) → keyFrom z a e d .address .0 < 128
 unfolding keyFrom
-key-address a e d = below-128 a
+key-address z a e d = below-128 a
 
-key-endpoint : (a e d : ℕ) → keyFrom a e d .endpoint < 16
+key-endpoint : (z a e d : ℕ) → keyFrom z a e d .endpoint < 16
 unfolding keyFrom
-key-endpoint a e d = below-16 e
+key-endpoint z a e d = below-16 e
 
 pub numbers-claims : NumbersClaims
 numbers-claims =
     record {
+      lanes = lanes;
       pids = pids;
       types = types;
       results = results;

@@ -4,6 +4,8 @@
 use Prim.Native.Nat.{ℕ}
 use mathlib.Core.Bool.{Bool, cond, _&&_, _||_}
 use lib.Dec.{eqb, leb}
+use Rattle.buffer.specs.declared.Lane.{Lane}
+use Rattle.buffer.specs.declared.Lane.the-variants.{Zero, One}
 use Rattle.buffer.specs.declared.Pid.{Pid}
 use Rattle.buffer.specs.declared.Pid.the-variants as pid
 use Rattle.buffer.specs.declared.TransferType.{TransferType}
@@ -14,8 +16,15 @@ use Rattle.buffer.specs.declared.DeviceResult.{DeviceResult}
 use Rattle.buffer.specs.declared.DeviceResult.the-variants.{Failure, Ack, Nak, Stall, Data0, Data1}
 use Rattle.port.specs.declared.LineEvent.{LineEvent}
 use Rattle.port.specs.declared.LineEvent.the-variants.{AttachLow, AttachFull, Detach, Chirp, Wake, PortError, OverCurrentOn, OverCurrentOff}
-use Rattle.translator.specs.Answers.{pidNumber}
+use Rattle.translator.specs.Answers.{laneNumber, pidNumber}
 use Rattle.numbers.specs.Written.{typeNumber, directionNumber, resultWritten, eventNumber}
+
+-- lane 0 or 1
+abbrev pub isLane : ℕ → Bool
+isLane n = eqb n (laneNumber Zero) || eqb n (laneNumber One)
+
+abbrev pub laneFrom : ℕ → Lane
+laneFrom n = cond (eqb n (laneNumber One)) One Zero
 
 -- OUT 1, IN 9, SETUP 13
 abbrev pub isPid : ℕ → Bool

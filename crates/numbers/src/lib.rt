@@ -6,6 +6,7 @@ ghost use Rattle.translator.specs.Answers.{
   startNumber,
   resultNumber,
   resultPid,
+  laneNumber,
   pidNumber,
   completeNumber,
   launchNumber,
@@ -21,6 +22,8 @@ ghost use Rattle.numbers.specs.Named.{
   resultFrom,
   isDirection,
   directionFrom,
+  isLane,
+  laneFrom,
   isEvent,
   eventFrom,
   isFlag,
@@ -33,6 +36,7 @@ use buffer::DeviceAddress;
 use buffer::DeviceResult;
 use buffer::Direction;
 use buffer::Key;
+use buffer::Lane;
 use buffer::Pid;
 use buffer::StartSplit;
 use buffer::TransferType;
@@ -44,6 +48,21 @@ use translator::LaunchAnswer;
 use translator::StartAnswer;
 
 // ---- what a number names
+
+pub fn is_lane(n: u32) -> bool
+    ensures { λ r. ⌜ r ≡ isLane n ⌝ }
+{
+    logic::either(n == 0, n == 1)
+}
+
+pub fn lane_of(n: u32) -> Lane
+    ensures { λ r. ⌜ r ≡ laneFrom n ⌝ }
+{
+    match n {
+        1 => Lane::One,
+        _ => Lane::Zero,
+    }
+}
 
 pub fn is_pid(n: u32) -> bool
     ensures { λ r. ⌜ r ≡ isPid n ⌝ }
@@ -155,6 +174,7 @@ pub fn port_named(count: u8, n: u32) -> bool
 // ---- start-splits and keys
 
 pub fn split_named(
+    lane: u32,
     pid: u32,
     transfer: u32,
     lowspeed: u32,
@@ -162,15 +182,16 @@ pub fn split_named(
     address: u32,
     endpoint: u32,
 ) -> bool
-    ensures { λ r. ⌜ r ≡ splitNamed pid transfer lowspeed toggle address endpoint ⌝ }
+    ensures { λ r. ⌜ r ≡ splitNamed lane pid transfer lowspeed toggle address endpoint ⌝ }
 {
     let kind = logic::both(is_pid(pid), is_type(transfer));
     let flags = logic::both(is_flag(lowspeed), is_flag(toggle));
     let device = logic::both(address < 128, endpoint < 16);
-    logic::both(kind, logic::both(flags, device))
+    logic::both(is_lane(lane), logic::both(kind, logic::both(flags, device)))
 }
 
 pub fn split_of(
+    lane: u32,
     pid: u32,
     transfer: u32,
     lowspeed: u32,
@@ -178,9 +199,10 @@ pub fn split_of(
     address: u32,
     endpoint: u32,
 ) -> StartSplit
-    ensures { λ r. ⌜ r ≡ splitFrom pid transfer lowspeed toggle address endpoint ⌝ }
+    ensures { λ r. ⌜ r ≡ splitFrom lane pid transfer lowspeed toggle address endpoint ⌝ }
 {
     StartSplit {
+        lane: lane_of(lane),
         pid: pid_of(pid),
         transfer: type_of(transfer),
         lowspeed: flag_of(lowspeed),
@@ -190,26 +212,39 @@ pub fn split_of(
     }
 }
 
-pub fn key_named(address: u32, endpoint: u32, direction: u32) -> bool
-    ensures { λ r. ⌜ r ≡ keyNamed address endpoint direction ⌝ }
+pub fn key_named(lane: u32, address: u32, endpoint: u32, direction: u32) -> bool
+    ensures { λ r. ⌜ r ≡ keyNamed lane address endpoint direction ⌝ }
 {
     logic::both(
-        logic::both(address < 128, endpoint < 16),
-        is_direction(direction),
+        is_lane(lane),
+        logic::both(
+            logic::both(address < 128, endpoint < 16),
+            is_direction(direction),
+        ),
     )
 }
 
-pub fn key_of(address: u32, endpoint: u32, direction: u32) -> Key
-    ensures { λ r. ⌜ r ≡ keyFrom address endpoint direction ⌝ }
+pub fn key_of(lane: u32, address: u32, endpoint: u32, direction: u32) -> Key
+    ensures { λ r. ⌜ r ≡ keyFrom lane address endpoint direction ⌝ }
 {
-    Key {
-        address: DeviceAddress((address % 128) as u8),
-        endpoint: (endpoint % 16) as u8,
-        direction: direction_of(direction),
-    }
+    Key::new(
+        lane_of(lane),
+        DeviceAddress((address % 128) as u8),
+        (endpoint % 16) as u8,
+        direction_of(direction),
+    )
 }
 
 // ---- the number of a value
+
+pub fn lane_number(lane: Lane) -> u8
+    ensures { λ r. ⌜ r ≡ laneNumber lane ⌝ }
+{
+    match lane {
+        Lane::Zero => 0,
+        Lane::One => 1,
+    }
+}
 
 pub fn pid_number(pid: Pid) -> u8
     ensures { λ r. ⌜ r ≡ pidNumber pid ⌝ }
@@ -275,6 +310,7 @@ fn choice_answer(choice: Choice) -> u8
 {
     match choice {
         Choice::NoRoom => 3,
+        Choice::LimitReached => 3,
         Choice::Held(_) => 0,
         Choice::Reused(_) => 0,
         Choice::Took(_) => 0,

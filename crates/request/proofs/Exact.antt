@@ -14,12 +14,12 @@ use Rattle.request.specs.declared.Kind.{Kind}
 use Rattle.request.specs.declared.Kind.the-variants.{Unknown, SetConfiguration, GetConfiguration, GetHubDescriptor, GetHubStatus, GetPortStatus, ClearHubFeature, ClearPortFeature, SetPortFeature, ClearTTBuffer, ResetTT}
 use Rattle.request.specs.declared.Request.{Request}
 use Rattle.request.specs.declared.Request.the-variants as request
-use Rattle.request.specs.Values.{keyIn}
+use Rattle.request.specs.Values.{pipeIn}
 use Rattle.request.specs.Table.{kindOf, isKnown, valueFits, isPort, indexFits, lengthFits}
 use Rattle.port.specs.declared.PortNumber.{PortNumber}
 use Rattle.request.specs.Request.{portIn, meaning, checked}
-use Rattle.request.specs.Claims.{PortOf, KeyInRange, fields, AsksFor, isWrong, InRange}
-use Rattle.request.proofs.Written.{by-cond, and-left, and-right, one-back, settable-back, settable-fits, settable-read, clearable-back, clearable-fits, clearable-read, key-back, key-fits, key-read}
+use Rattle.request.specs.Claims.{PortOf, PipeInRange, fields, AsksFor, isWrong, InRange}
+use Rattle.request.proofs.Written.{by-cond, and-left, and-right, one-back, settable-back, settable-fits, settable-read, clearable-back, clearable-fits, clearable-read, pipe-back, pipe-fits, pipe-read}
 
 abbrev TypeAndCode : ℕ → ℕ → Kind → Type 0
 TypeAndCode t c Unknown = Unit {0}
@@ -77,8 +77,8 @@ zero-or-one zero h = inl refl
 zero-or-one (suc zero) h = inr refl
 zero-or-one (suc (suc v)) h = absurd (omega (arith, h))
 
-key-ranged : (v : ℕ) → KeyInRange (keyIn v)
-key-ranged v =
+pipe-ranged : (v : ℕ) → PipeInRange (pipeIn v)
+pipe-ranged v =
     let a : v / 16 % 128 < 128 = omega arith in
     let e : v % 16 < 16 = omega arith in
     (a, e)
@@ -96,7 +96,7 @@ asks n t c v i l ClearHubFeature h w x y z =
 asks n t c v i l ClearPortFeature h w x y z = (port-of n i y, same w (clearable-back v x) refl (eqb-true l 0 z))
 asks n t c v i l SetPortFeature h w x y z = (port-of n i y, same w (settable-back v x) refl (eqb-true l 0 z))
 asks n t c v i l ClearTTBuffer h w x y z =
-    (key-ranged v, ⊎-map (λ e. same w e (eqb-true i 1 y) (eqb-true l 0 z)) (λ e. same w e (eqb-true i 1 y) (eqb-true l 0 z)) (key-back v h x))
+    (pipe-ranged v, ⊎-map (λ e. same w e (eqb-true i 1 y) (eqb-true l 0 z)) (λ e. same w e (eqb-true i 1 y) (eqb-true l 0 z)) (pipe-back v h x))
 asks n t c v i l ResetTT h w x y z = same w (eqb-true v 0 x) (eqb-true i 1 y) (eqb-true l 0 z)
 
 abbrev asked : ℕ → Setup → Request
@@ -119,8 +119,8 @@ reads n s (request.ClearPortFeature p f) o w = ap (asked n) (w .1) ∙ rw (clear
 reads n s (request.SetPortFeature p f) o w = ap (asked n) (w .1) ∙ rw (settable-fits f, at-port n p (w .0), settable-read f)
 reads n s (request.ClearTTBuffer k) o w =
     ⊎-elim
-    (λ e. ap (asked n) e ∙ rw (key-fits 0 k (w .0) refl, key-read 0 k (w .0) refl))
-    (λ e. ap (asked n) e ∙ rw (key-fits 2 k (w .0) refl, key-read 2 k (w .0) refl))
+    (λ e. ap (asked n) e ∙ rw (pipe-fits 0 k (w .0) refl, pipe-read 0 k (w .0) refl))
+    (λ e. ap (asked n) e ∙ rw (pipe-fits 2 k (w .0) refl, pipe-read 2 k (w .0) refl))
     (w .1)
 reads n s request.ResetTT o w = ap (asked n) w
 
@@ -134,5 +134,5 @@ ranged n GetPortStatus v i l y = port-of n i y
 ranged n ClearHubFeature v i l y = tt
 ranged n ClearPortFeature v i l y = port-of n i y
 ranged n SetPortFeature v i l y = port-of n i y
-ranged n ClearTTBuffer v i l y = key-ranged v
+ranged n ClearTTBuffer v i l y = pipe-ranged v
 ranged n ResetTT v i l y = tt

@@ -15,9 +15,9 @@ use Rattle.port.specs.declared.SettableFeature.{SettableFeature}
 use Rattle.port.specs.declared.SettableFeature.the-variants as settable
 use Rattle.buffer.specs.declared.Direction.{Direction}
 use Rattle.buffer.specs.declared.Direction.the-variants.{Out, In}
-use Rattle.buffer.specs.declared.Key.{Key}
-use Rattle.request.specs.Values.{isSettable, settableOf, isClearable, changeOf, clearableOf, isKey, directionIn, keyIn}
-use Rattle.request.specs.Claims.{settableNumber, changeNumber, clearableNumber, directionBit, keyValue, KeyInRange}
+use Rattle.request.specs.declared.Pipe.{Pipe}
+use Rattle.request.specs.Values.{isSettable, settableOf, isClearable, changeOf, clearableOf, isPipe, directionIn, pipeIn}
+use Rattle.request.specs.Claims.{settableNumber, changeNumber, clearableNumber, directionBit, pipeValue, PipeInRange}
 
 pub by-cond : {A : Type 0} (P : A → Type 0) (x : Bool) {a b : A} → (x ≡ true → P a) → (x ≡ false → P b) → P (cond x a b)
 by-cond P true h g = h refl
@@ -112,14 +112,14 @@ parts v z =
     let c : v / 8192 / 4 ≡ v / 32768 = omega arith in
     omega (arith, a, b, c, z)
 
-whole : (v t : ℕ) → v < 65536 → v / 8192 % 4 ≡ 0 → v / 2048 % 4 ≡ t → v ≡ keyValue t (keyIn v)
+whole : (v t : ℕ) → v < 65536 → v / 8192 % 4 ≡ 0 → v / 2048 % 4 ≡ t → v ≡ pipeValue t (pipeIn v)
 whole v t h z p =
     let d : v / 32768 < 2 = omega (arith, h) in
     parts v z ∙ rw (p, bit-back (v / 32768) d)
 
 -- the key that a wValue has, with its type, is that wValue
-pub key-back : (v : ℕ) → v < 65536 → isKey v ≡ true → (v ≡ keyValue 0 (keyIn v)) ⊎ (v ≡ keyValue 2 (keyIn v))
-key-back v h e =
+pub pipe-back : (v : ℕ) → v < 65536 → isPipe v ≡ true → (v ≡ pipeValue 0 (pipeIn v)) ⊎ (v ≡ pipeValue 2 (pipeIn v))
+pipe-back v h e =
     let x = eqb (v / 2048 % 4) 0 || eqb (v / 2048 % 4) 2 in
     let y = eqb (v / 8192 % 4) 0 in
     let z = eqb-true (v / 8192 % 4) 0 (and-right x y e) in
@@ -127,7 +127,7 @@ key-back v h e =
     (type-told (eqb (v / 2048 % 4) 0) (eqb (v / 2048 % 4) 2) (v / 2048 % 4) refl refl (and-left x y e))
 
 -- and the other way
-module _ (t : ℕ) (k : Key) (r : KeyInRange k) (o : eqb t 0 || eqb t 2 ≡ true) where
+module _ (t : ℕ) (k : Pipe) (r : PipeInRange k) (o : eqb t 0 || eqb t 2 ≡ true) where
   two : t < 4
   two = ⊎-elim (λ e. omega (arith, e)) (λ e. omega (arith, e)) (type-told (eqb t 0) (eqb t 2) t refl refl o)
 
@@ -147,18 +147,18 @@ module _ (t : ℕ) (k : Key) (r : KeyInRange k) (o : eqb t 0 || eqb t 2 ≡ true
     direction-at : v / 32768 ≡ d
     direction-at = omega (arith, w, g, h, two)
 
-  pub key-fits : isKey (keyValue t k) ≡ true
-  key-fits =
-      let v = keyValue t k in
+  pub pipe-fits : isPipe (pipeValue t k) ≡ true
+  pipe-fits =
+      let v = pipeValue t k in
       rw (
         type-at v (k .address .0) (k .endpoint) (directionBit (k .direction)) refl (r .0) (r .1),
         rest-at v (k .address .0) (k .endpoint) (directionBit (k .direction)) refl (r .0) (r .1),
         o,
       )
 
-  pub key-read : keyIn (keyValue t k) ≡ k
-  key-read =
-      let v = keyValue t k in
+  pub pipe-read : pipeIn (pipeValue t k) ≡ k
+  pipe-read =
+      let v = pipeValue t k in
       rw (
         address-at v (k .address .0) (k .endpoint) (directionBit (k .direction)) refl (r .0) (r .1),
         endpoint-at v (k .address .0) (k .endpoint) (directionBit (k .direction)) refl (r .0) (r .1),

@@ -10,7 +10,7 @@ use Rattle.port.specs.declared.ClearableFeature.the-variants as clearable
 use Rattle.port.specs.declared.SettableFeature.the-variants as settable
 use Rattle.buffer.specs.declared.Direction.{Direction}
 use Rattle.buffer.specs.declared.Direction.the-variants.{In, Out}
-use Rattle.buffer.specs.declared.Key.{Key}
+use Rattle.request.specs.declared.Pipe.{Pipe}
 use Rattle.request.specs.declared.Fault.the-variants.{TypeOrCode, Value, Index, Length}
 use Rattle.request.specs.declared.Request.{Request}
 use Rattle.request.specs.declared.Request.the-variants.{Wrong, SetConfiguration, GetConfiguration, GetHubDescriptor, GetHubStatus, GetPortStatus, ClearHubFeature, ClearPortFeature, SetPortFeature, ClearTTBuffer, ResetTT}
@@ -27,8 +27,8 @@ case t c v0 v1 i0 i1 l0 l1 r = record { bytes = t ∷ c ∷ v0 ∷ v1 ∷ i0 ∷
 abbrev pub port : ℕ → PortNumber
 port n = record { 0 = n }
 
-abbrev pub key : ℕ → ℕ → Direction → Key
-key a e d = record { address = record { 0 = a }; endpoint = e; direction = d }
+abbrev pub pipe : ℕ → ℕ → Direction → Pipe
+pipe a e d = record { address = record { 0 = a }; endpoint = e; direction = d }
 
 abbrev pub right : List Case
 right =
@@ -55,9 +55,9 @@ right =
     ∷ case 0x23 0x03 0x04 0x00 0x01 0x00 0x00 0x00 (SetPortFeature (port 1) settable.Reset)
     ∷ case 0x23 0x03 0x08 0x00 0x04 0x00 0x00 0x00 (SetPortFeature (port 4) settable.Power)
     -- address 5, endpoint 1, control, OUT: 0051; bulk, IN: 9051; address 127, endpoint 15, bulk, IN: 97FF
-    ∷ case 0x23 0x08 0x51 0x00 0x01 0x00 0x00 0x00 (ClearTTBuffer (key 5 1 Out))
-    ∷ case 0x23 0x08 0x51 0x90 0x01 0x00 0x00 0x00 (ClearTTBuffer (key 5 1 In))
-    ∷ case 0x23 0x08 0xFF 0x97 0x01 0x00 0x00 0x00 (ClearTTBuffer (key 127 15 In))
+    ∷ case 0x23 0x08 0x51 0x00 0x01 0x00 0x00 0x00 (ClearTTBuffer (pipe 5 1 Out))
+    ∷ case 0x23 0x08 0x51 0x90 0x01 0x00 0x00 0x00 (ClearTTBuffer (pipe 5 1 In))
+    ∷ case 0x23 0x08 0xFF 0x97 0x01 0x00 0x00 0x00 (ClearTTBuffer (pipe 127 15 In))
     ∷ case 0x23 0x09 0x00 0x00 0x01 0x00 0x00 0x00 ResetTT
     ∷ []
 

@@ -14,7 +14,7 @@ use Rattle.port.specs.declared.SettableFeature.{SettableFeature}
 use Rattle.port.specs.declared.SettableFeature.the-variants as settable
 use Rattle.buffer.specs.declared.Direction.{Direction}
 use Rattle.buffer.specs.declared.Direction.the-variants as direction
-use Rattle.buffer.specs.declared.Key.{Key}
+use Rattle.request.specs.declared.Pipe.{Pipe}
 use Rattle.request.specs.declared.Setup.{Setup}
 use Rattle.request.specs.declared.Request.{Request}
 use Rattle.request.specs.declared.Request.the-variants.{Wrong, SetConfiguration, GetConfiguration, GetHubDescriptor, GetHubStatus, GetPortStatus, ClearHubFeature, ClearPortFeature, SetPortFeature, ClearTTBuffer, ResetTT}
@@ -47,16 +47,16 @@ directionBit direction.Out = 0
 directionBit direction.In = 1
 
 -- endpoint bits 0 to 3, address 4 to 10, type 11 to 12, direction 15, rest zero
-abbrev pub keyValue : ℕ → Key → ℕ
-keyValue t k = k .endpoint + 16 * (k .address .0) + 2048 * t + 32768 * directionBit (k .direction)
+abbrev pub pipeValue : ℕ → Pipe → ℕ
+pipeValue t k = k .endpoint + 16 * (k .address .0) + 2048 * t + 32768 * directionBit (k .direction)
 
 -- N ports .. numbered from 1
 abbrev pub PortOf : ℕ → PortNumber → Type 0
 PortOf n p = (1 ≤ p .0) × (p .0 ≤ n)
 
 -- device address 0 to 127; endpoint 0 to 15
-abbrev pub KeyInRange : Key → Type 0
-KeyInRange k = (k .address .0 < 128) × (k .endpoint < 16)
+abbrev pub PipeInRange : Pipe → Type 0
+PipeInRange k = (k .address .0 < 128) × (k .endpoint < 16)
 
 -- type, request, wValue, wIndex, wLength
 abbrev pub fields : ℕ → ℕ → ℕ → ℕ → ℕ → Setup
@@ -73,7 +73,7 @@ AsksFor n s (GetPortStatus p) = PortOf n p × (s ≡ fields 0xA3 0x00 0 (p .0) 4
 AsksFor n s ClearHubFeature = (s ≡ fields 0x20 0x01 0 0 0) ⊎ (s ≡ fields 0x20 0x01 1 0 0)
 AsksFor n s (ClearPortFeature p f) = PortOf n p × (s ≡ fields 0x23 0x01 (clearableNumber f) (p .0) 0)
 AsksFor n s (SetPortFeature p f) = PortOf n p × (s ≡ fields 0x23 0x03 (settableNumber f) (p .0) 0)
-AsksFor n s (ClearTTBuffer k) = KeyInRange k × ((s ≡ fields 0x23 0x08 (keyValue 0 k) 1 0) ⊎ (s ≡ fields 0x23 0x08 (keyValue 2 k) 1 0))
+AsksFor n s (ClearTTBuffer k) = PipeInRange k × ((s ≡ fields 0x23 0x08 (pipeValue 0 k) 1 0) ⊎ (s ≡ fields 0x23 0x08 (pipeValue 2 k) 1 0))
 AsksFor n s ResetTT = s ≡ fields 0x23 0x09 0 1 0
 
 abbrev pub isWrong : Request → Bool
@@ -100,7 +100,7 @@ InRange n (GetPortStatus p) = PortOf n p
 InRange n ClearHubFeature = Unit {0}
 InRange n (ClearPortFeature p f) = PortOf n p
 InRange n (SetPortFeature p f) = PortOf n p
-InRange n (ClearTTBuffer k) = KeyInRange k
+InRange n (ClearTTBuffer k) = PipeInRange k
 InRange n ResetTT = Unit {0}
 
 pub record RequestClaims : Type 0 where

@@ -11,7 +11,7 @@ use Rattle.request.specs.declared.Kind.the-variants as kind
 use Rattle.request.specs.declared.Request.{Request}
 use Rattle.request.specs.declared.Request.the-variants.{Wrong, SetConfiguration, GetConfiguration, GetHubDescriptor, GetHubStatus, GetPortStatus, ClearHubFeature, ClearPortFeature, SetPortFeature, ClearTTBuffer, ResetTT}
 use Rattle.request.specs.Setup.{setupOf}
-use Rattle.request.specs.Values.{settableOf, clearableOf, keyIn}
+use Rattle.request.specs.Values.{settableOf, clearableOf, pipeIn}
 use Rattle.request.specs.Table.{kindOf, isKnown, valueFits, indexFits, lengthFits}
 
 -- index port
@@ -29,7 +29,7 @@ meaning kind.GetPortStatus v i l = GetPortStatus (portIn i)
 meaning kind.ClearHubFeature v i l = ClearHubFeature
 meaning kind.ClearPortFeature v i l = ClearPortFeature (portIn i) (clearableOf v)
 meaning kind.SetPortFeature v i l = SetPortFeature (portIn i) (settableOf v)
-meaning kind.ClearTTBuffer v i l = ClearTTBuffer (keyIn v)
+meaning kind.ClearTTBuffer v i l = ClearTTBuffer (pipeIn v)
 meaning kind.ResetTT v i l = ResetTT
 
 -- Wrong fields inside them, a port number included, are 2.

@@ -5,7 +5,7 @@ use mathlib.Core.Bool.{Bool, true, false, cond, _&&_}
 use lib.Dec.{eqb, leb}
 use Rattle.request.specs.declared.Kind.{Kind}
 use Rattle.request.specs.declared.Kind.the-variants.{Unknown, SetConfiguration, GetConfiguration, GetHubDescriptor, GetHubStatus, GetPortStatus, ClearHubFeature, ClearPortFeature, SetPortFeature, ClearTTBuffer, ResetTT}
-use Rattle.request.specs.Values.{isSettable, isClearable, isKey}
+use Rattle.request.specs.Values.{isSettable, isClearable, isPipe}
 
 -- Type, code
 unfoldable pub kindOf : ℕ → ℕ → Kind
@@ -47,7 +47,7 @@ valueFits GetPortStatus v = eqb v 0
 valueFits ClearHubFeature v = leb v 1
 valueFits ClearPortFeature v = isClearable v
 valueFits SetPortFeature v = isSettable v
-valueFits ClearTTBuffer v = isKey v
+valueFits ClearTTBuffer v = isPipe v
 valueFits ResetTT v = eqb v 0
 
 -- N ports .. numbered from 1. With N below 256 the high byte of a port's wIndex is zero.

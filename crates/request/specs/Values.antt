@@ -1,4 +1,4 @@
--- What wValue says. A reader must believe: these are the features and the key of document 01, with its numbers.
+-- What wValue says. A reader must believe: these are the features and the address, endpoint and direction of document 01, with its numbers.
 -- Which numbers are allowed stands beside what they mean; a meaning is used only where its number is allowed.
 use Prim.Native.Nat.{ℕ, _/_, _%_}
 use mathlib.Core.Bool.{Bool, cond, _&&_, _||_}
@@ -11,7 +11,7 @@ use Rattle.port.specs.declared.SettableFeature.{SettableFeature}
 use Rattle.port.specs.declared.SettableFeature.the-variants as settable
 use Rattle.buffer.specs.declared.Direction.{Direction}
 use Rattle.buffer.specs.declared.Direction.the-variants as direction
-use Rattle.buffer.specs.declared.Key.{Key}
+use Rattle.request.specs.declared.Pipe.{Pipe}
 
 -- SetPortFeature: 2, 4, 8
 abbrev pub isSettable : ℕ → Bool
@@ -46,13 +46,13 @@ clearableOf v =
     (clearable.Change (changeOf v))))
 
 -- ClearTTBuffer wValue: type 11 to 12 (0 or 2, else 2) .. rest [bits 13 and 14] zero
-abbrev pub isKey : ℕ → Bool
-isKey v = (eqb (v / 2048 % 4) 0 || eqb (v / 2048 % 4) 2) && eqb (v / 8192 % 4) 0
+abbrev pub isPipe : ℕ → Bool
+isPipe v = (eqb (v / 2048 % 4) 0 || eqb (v / 2048 % 4) 2) && eqb (v / 8192 % 4) 0
 
 -- direction 15 (1 for IN)
 abbrev pub directionIn : ℕ → Direction
 directionIn b = cond (eqb b 1) direction.In direction.Out
 
 -- endpoint bits 0 to 3, address 4 to 10
-abbrev pub keyIn : ℕ → Key
-keyIn v = record { address = record { 0 = v / 16 % 128 }; endpoint = v % 16; direction = directionIn (v / 32768) }
+abbrev pub pipeIn : ℕ → Pipe
+pipeIn v = record { address = record { 0 = v / 16 % 128 }; endpoint = v % 16; direction = directionIn (v / 32768) }

@@ -7,9 +7,9 @@ ghost use Rattle.request.specs.Values.{
   isClearable,
   changeOf,
   clearableOf,
-  isKey,
+  isPipe,
   directionIn,
-  keyIn,
+  pipeIn,
 };
 ghost use Rattle.request.specs.Table.{kindOf, isKnown, valueFits, isPort, indexFits, lengthFits};
 ghost use Rattle.request.specs.Request.{meaning, requestOf};
@@ -17,7 +17,6 @@ ghost use Rattle.request.specs.Claims.{RequestClaims};
 ghost use Rattle.request.specs.Cases.{CasesHold};
 use buffer::DeviceAddress;
 use buffer::Direction;
-use buffer::Key;
 use port::ChangeBit;
 use port::ClearableFeature;
 use port::PortNumber;
@@ -55,6 +54,13 @@ pub enum Fault {
     Length,
 }
 
+// What ClearTTBuffer names: address, endpoint and direction. With the lane of the caller it is a key.
+pub struct Pipe {
+    pub address: DeviceAddress,
+    pub endpoint: u8,
+    pub direction: Direction,
+}
+
 // GetHubDescriptor has wLength, SetConfiguration whether its value is 1.
 pub enum Request {
     Wrong(Fault),
@@ -66,7 +72,7 @@ pub enum Request {
     ClearHubFeature,
     ClearPortFeature(PortNumber, ClearableFeature),
     SetPortFeature(PortNumber, SettableFeature),
-    ClearTTBuffer(Key),
+    ClearTTBuffer(Pipe),
     ResetTT,
 }
 
@@ -162,8 +168,8 @@ fn clearable_of(value: u16) -> ClearableFeature
 }
 
 // Whether wValue of ClearTTBuffer has a right type and zeros in bits 13 and 14.
-fn is_key(value: u16) -> bool
-    ensures { λ r. ⌜ r ≡ isKey value ⌝ }
+fn is_pipe(value: u16) -> bool
+    ensures { λ r. ⌜ r ≡ isPipe value ⌝ }
 {
     let transfer = value / 2048 % 4;
     logic::both(
@@ -181,11 +187,11 @@ fn direction_in(bit: u16) -> Direction
     }
 }
 
-// The key that wValue of ClearTTBuffer names.
-fn key_in(value: u16) -> Key
-    ensures { λ r. ⌜ r ≡ keyIn value ⌝ }
+// The pipe that wValue of ClearTTBuffer names.
+fn pipe_in(value: u16) -> Pipe
+    ensures { λ r. ⌜ r ≡ pipeIn value ⌝ }
 {
-    Key {
+    Pipe {
         address: DeviceAddress((value / 16 % 128) as u8),
         endpoint: (value % 16) as u8,
         direction: direction_in(value / 32768),
@@ -231,7 +237,7 @@ impl Kind {
             Kind::ClearHubFeature => value <= 1,
             Kind::ClearPortFeature => is_clearable(value),
             Kind::SetPortFeature => is_settable(value),
-            Kind::ClearTTBuffer => is_key(value),
+            Kind::ClearTTBuffer => is_pipe(value),
             Kind::ResetTT => value == 0,
         }
     }
@@ -287,7 +293,7 @@ impl Kind {
             Kind::ClearHubFeature => Request::ClearHubFeature,
             Kind::ClearPortFeature => Request::ClearPortFeature(port, clearable_of(value)),
             Kind::SetPortFeature => Request::SetPortFeature(port, settable_of(value)),
-            Kind::ClearTTBuffer => Request::ClearTTBuffer(key_in(value)),
+            Kind::ClearTTBuffer => Request::ClearTTBuffer(pipe_in(value)),
             Kind::ResetTT => Request::ResetTT,
         }
     }

@@ -6,6 +6,7 @@ use mathlib.Core.Bool.{Bool, true, false, cond, true≢false}
 use lib.ListN.{length, set, take, replicate, length-replicate, length-append, replicate-append-replicate, List·getD-map}
 use Rattle.payload.specs.declared.Payload.{Payload}
 use Rattle.payload.specs.Payload.{padded, content, noPayload, payloadOf}
+use Rattle.buffer.specs.declared.Lane.{Lane}
 use Rattle.buffer.specs.declared.Key.{Key}
 use Rattle.buffer.specs.declared.StartSplit.{StartSplit}
 use Rattle.buffer.specs.declared.DeviceResult.{DeviceResult}
@@ -14,9 +15,8 @@ use Rattle.buffer.specs.declared.Slot.the-variants.{Empty, Pending, Ready, Old}
 use Rattle.buffer.specs.declared.Buffer.{Buffer}
 use Rattle.buffer.specs.declared.BufferNumber.{BufferNumber}
 use Rattle.buffer.specs.Key as key
-use Rattle.buffer.specs.Key.{sameKey}
 use Rattle.buffer.specs.Lengths.{startFits, resultLength, isData, suits}
-use Rattle.buffer.specs.Buffer.{vacant, isPending, isFree, holds}
+use Rattle.buffer.specs.Buffer.{vacant, isPending, isFree, holds, inLane, activeIn}
 use Rattle.buffer.proofs.Keys.{same-true}
 use Rattle.translator.specs.declared.Translator.{Translator}
 use Rattle.translator.specs.declared.LowSide.{LowSide}
@@ -24,7 +24,7 @@ use Rattle.translator.specs.declared.LowSide.the-variants.{Idle, Running, Aband
 use Rattle.translator.specs.declared.Found.{Found}
 use Rattle.translator.specs.declared.Found.the-variants.{Nowhere, At}
 use Rattle.translator.specs.declared.Choice.{Choice}
-use Rattle.translator.specs.declared.Choice.the-variants.{NoRoom, Held, Reused, Took}
+use Rattle.translator.specs.declared.Choice.the-variants.{NoRoom, LimitReached, Held, Reused, Took}
 use Rattle.translator.specs.declared.Earliest.{Earliest}
 use Rattle.translator.specs.declared.Earliest.the-variants.{NonePending, Stored}
 use Rattle.translator.specs.declared.StartAnswer.the-variants as start
@@ -37,14 +37,16 @@ use Rattle.translator.specs.declared.Launched.{Launched}
 use Rattle.translator.specs.declared.Delivered.{Delivered}
 use Rattle.translator.specs.Translator.{at}
 use Rattle.translator.specs.Search.{later, find, chooseHeld, chosen, pass}
+use Rattle.translator.specs.Limit.{permitted}
+use Rattle.translator.specs.ResetLane.{withoutLane, lowWithoutLane, resetLane}
 use Rattle.translator.specs.Order.{bit, isBefore, tally, waiting, reranked, rankedIn, ranked, sooner, earliest}
 use Rattle.translator.specs.StartSplit.{stored, startBy, startSplit}
 use Rattle.translator.specs.CompleteSplit.{given, completed, completeAt, completeSplit}
 use Rattle.translator.specs.Launch.{launched, launchAt, launchBy, launch}
 use Rattle.translator.specs.Deliver.{undelivered, delivered, deliverBy, deliver}
 use Rattle.translator.specs.Clear.{clearAt, clearBuffer}
-use Rattle.translator.proofs.At.{holds-reranked}
 use Rattle.translator.proofs.Finding.{FindSays, find-says}
+use Rattle.runs.specs.Demand3.{Marks}
 
 -- the bytes, or as many zeros
 abbrev pub blank : Bool → List ℕ → List ℕ
@@ -87,17 +89,30 @@ blank-payload : (b : Bool) (l : List ℕ) → payloadOf (blank b l) ≡ blankP b
 unfolding payloadOf
 blank-payload b l = rw (blank-take b 64 l, length-blank b (take 64 l), blank-padded b (take 64 l))
 
-module _ (m : Key) where
+-- it holds a marked key
+abbrev pub covered : Marks → Slot → Bool
+covered m Empty = false
+covered m (Pending s p) = m (key.keyOf s)
+covered m (Ready s r) = m (key.keyOf s)
+covered m (Old s r) = m (key.keyOf s)
+
+covered-reranked : (bs : List Buffer) (m : Marks) (s : Slot) → covered m (reranked bs s) ≡ covered m s
+covered-reranked bs m Empty = refl
+covered-reranked bs m (Pending s p) = refl
+covered-reranked bs m (Ready s r) = refl
+covered-reranked bs m (Old s r) = refl
+
+module _ (m : Marks) where
   abbrev pub hideB : Buffer → Buffer
-  hideB b = record { slot = b .slot; payload = blankP (holds m (b .slot)) (b .payload) }
+  hideB b = record { slot = b .slot; payload = blankP (covered m (b .slot)) (b .payload) }
 
   abbrev pub hideT : Translator → Translator
   hideT t = record { buffers = map hideB (t .buffers); count = t .count; low = t .low }
 
-  -- whether a delivery now may be blanked: what runs is under the mark, or nothing runs
+  -- whether a delivery now may be blanked: what runs is marked, or nothing runs
   abbrev pub shown : List Buffer → LowSide → Bool
   shown bs Idle = true
-  shown bs (Running n) = holds m (at bs (n .0) .slot)
+  shown bs (Running n) = covered m (at bs (n .0) .slot)
   shown bs Abandoned = true
 
   -- ---- the searches do not see the bytes
@@ -145,6 +160,10 @@ module _ (m : Key) where
       go Nowhere = rw (hide-find isFree (take n bs))
       go (At i) = rw (hide-at (take n bs) (i .0))
 
+  hide-permitted : (b n : ℕ) (k : Key) (bs : List Buffer) → permitted b k (take n (map hideB bs)) ≡ permitted b k (take n bs)
+  unfolding permitted
+  hide-permitted b n k bs = rw (hide-chosen n k bs, hide-take n bs, hide-tally (activeIn (k .lane)) (take n bs))
+
   hide-reranked : (bs : List Buffer) (s : Slot) → reranked (map hideB bs) s ≡ reranked bs s
   hide-reranked bs Empty = refl
   hide-reranked bs (Pending s p) = rw (hide-tally (isBefore p) bs)
@@ -156,7 +175,7 @@ module _ (m : Key) where
   hide-ranked bs = go bs
     where
       one : (b : Buffer) → rankedIn (map hideB bs) (hideB b) ≡ hideB (rankedIn bs b)
-      one b = rw (hide-reranked bs (b .slot), holds-reranked bs m (b .slot))
+      one b = rw (hide-reranked bs (b .slot), covered-reranked bs m (b .slot))
 
       go : (cs : List Buffer) → map (rankedIn (map hideB bs)) (map hideB cs) ≡ map hideB (map (rankedIn bs) cs)
       go [] = refl
@@ -170,24 +189,25 @@ module _ (m : Key) where
   abbrev pub hideDelivered : Delivered → Delivered
   hideDelivered o = record { next = hideT (o .next); answer = o .answer }
 
-  hide-stored : (t : Translator) (n : BufferNumber) (s : StartSplit) (l : List ℕ) → stored (hideT t) n s (blank (sameKey (key.keyOf s) m) l) ≡ hideT (stored t n s l)
+  hide-stored : (t : Translator) (n : BufferNumber) (s : StartSplit) (l : List ℕ) → stored (hideT t) n s (blank (m (key.keyOf s)) l) ≡ hideT (stored t n s l)
   unfolding stored
   hide-stored t n s l =
-      rw (hide-ranked (t .buffers), hide-tally isPending (t .buffers), blank-payload (sameKey (key.keyOf s) m) l, hide-set (ranked (t .buffers)) (n .0) (record { slot = Pending s (waiting (t .buffers)); payload = payloadOf l }))
+      rw (hide-ranked (t .buffers), hide-tally isPending (t .buffers), blank-payload (m (key.keyOf s)) l, hide-set (ranked (t .buffers)) (n .0) (record { slot = Pending s (waiting (t .buffers)); payload = payloadOf l }))
 
-  pub hide-start : (t : Translator) (s : StartSplit) (l : List ℕ) → startSplit (hideT t) s (blank (sameKey (key.keyOf s) m) l) ≡ hideStarted (startSplit t s l)
+  pub hide-start : (t : Translator) (s : StartSplit) (l : List ℕ) → startSplit (hideT t) s (blank (m (key.keyOf s)) l) ≡ hideStarted (startSplit t s l)
   unfolding startSplit
   hide-start t s l =
-      rw (length-blank (sameKey (key.keyOf s) m) l, hide-chosen (t .count) (key.keyOf s) (t .buffers))
-      (go (startFits s (length l)) (chosen (key.keyOf s) (take (t .count) (t .buffers))))
+      rw (length-blank (m (key.keyOf s)) l, hide-permitted (t .count) (t .count) (key.keyOf s) (t .buffers))
+      (go (startFits s (length l)) (permitted (t .count) (key.keyOf s) (take (t .count) (t .buffers))))
     where
-      by : (c : Choice) → startBy (hideT t) s (blank (sameKey (key.keyOf s) m) l) c ≡ hideStarted (startBy t s l c)
+      by : (c : Choice) → startBy (hideT t) s (blank (m (key.keyOf s)) l) c ≡ hideStarted (startBy t s l c)
       by NoRoom = refl
+      by LimitReached = refl
       by (Held n) = refl
       by (Reused n) = rw (hide-stored t n s l)
       by (Took n) = rw (hide-stored t n s l)
 
-      go : (x : Bool) (c : Choice) → cond x (startBy (hideT t) s (blank (sameKey (key.keyOf s) m) l) c) (record { next = hideT t; answer = start.Outside })
+      go : (x : Bool) (c : Choice) → cond x (startBy (hideT t) s (blank (m (key.keyOf s)) l) c) (record { next = hideT t; answer = start.Outside })
           ≡ hideStarted (cond x (startBy t s l c) (record { next = t; answer = start.Outside }))
       go true c = by c
       go false c = refl
@@ -195,12 +215,12 @@ module _ (m : Key) where
   abbrev pub hideCompleted : Bool → Completed → Completed
   hideCompleted b o = record { next = hideT (o .next); answer = o .answer; payload = blankP b (o .payload) }
 
-  -- a buffer that holds k is under the mark exactly if k is the mark
-  under : (k : Key) (s : Slot) → holds k s ≡ true → holds m s ≡ sameKey k m
+  -- a buffer that holds k is marked exactly if k is
+  under : (k : Key) (s : Slot) → holds k s ≡ true → covered m s ≡ m k
   under k Empty e = absurd (true≢false (sym e))
-  under k (Pending s p) e = ap (λ (x : Key). sameKey x m) (same-true (key.keyOf s) k e)
-  under k (Ready s r) e = ap (λ (x : Key). sameKey x m) (same-true (key.keyOf s) k e)
-  under k (Old s r) e = ap (λ (x : Key). sameKey x m) (same-true (key.keyOf s) k e)
+  under k (Pending s p) e = ap m (same-true (key.keyOf s) k e)
+  under k (Ready s r) e = ap m (same-true (key.keyOf s) k e)
+  under k (Old s r) e = ap m (same-true (key.keyOf s) k e)
 
   hide-given : (b : Bool) (r : DeviceResult) (p : Payload) → given r (blankP b p) ≡ blankP b (given r p)
   hide-given b r p = go (isData r)
@@ -209,29 +229,29 @@ module _ (m : Key) where
       go true = refl
       go false = sym (blank-none b)
 
-  pub hide-complete : (t : Translator) (k : Key) → completeSplit (hideT t) k ≡ hideCompleted (sameKey k m) (completeSplit t k)
+  pub hide-complete : (t : Translator) (k : Key) → completeSplit (hideT t) k ≡ hideCompleted (m k) (completeSplit t k)
   unfolding completeSplit
   hide-complete t k = rw (hide-first (t .count) (holds k) (t .buffers)) (go (find (holds k) (take (t .count) (t .buffers))) (find-says (holds k) (t .count) (t .buffers)))
     where
-      go : (f : Found) → FindSays (holds k) (t .count) (t .buffers) f → completeAt (hideT t) f ≡ hideCompleted (sameKey k m) (completeAt t f)
-      go Nowhere r = rw (blank-none (sameKey k m))
+      go : (f : Found) → FindSays (holds k) (t .count) (t .buffers) f → completeAt (hideT t) f ≡ hideCompleted (m k) (completeAt t f)
+      go Nowhere r = rw (blank-none (m k))
       go (At n) r = rw (hide-at (t .buffers) (n .0), under k (at (t .buffers) (n .0) .slot) (r .passes)) (slot (at (t .buffers) (n .0) .slot) refl)
         where
           p : Payload
           p = at (t .buffers) (n .0) .payload
 
-          slot : (s : Slot) → at (t .buffers) (n .0) .slot ≡ s → completed (hideT t) n (blankP (sameKey k m) p) s ≡ hideCompleted (sameKey k m) (completed t n p s)
-          slot Empty e = rw (blank-none (sameKey k m))
-          slot (Pending s q) e = rw (blank-none (sameKey k m))
+          slot : (s : Slot) → at (t .buffers) (n .0) .slot ≡ s → completed (hideT t) n (blankP (m k) p) s ≡ hideCompleted (m k) (completed t n p s)
+          slot Empty e = rw (blank-none (m k))
+          slot (Pending s q) e = rw (blank-none (m k))
           slot (Ready s x) e =
-              rw (hide-set (t .buffers) (n .0) (record { slot = Old s x; payload = p }), hide-given (sameKey k m) x p, sym (sym (under k (at (t .buffers) (n .0) .slot) (r .passes)) ∙ ap (holds m) e))
-          slot (Old s x) e = rw (hide-given (sameKey k m) x p)
+              rw (hide-set (t .buffers) (n .0) (record { slot = Old s x; payload = p }), hide-given (m k) x p, sym (sym (under k (at (t .buffers) (n .0) .slot) (r .passes)) ∙ ap (covered m) e))
+          slot (Old s x) e = rw (hide-given (m k) x p)
 
-  -- whether what is launched is under the mark
+  -- whether what is launched is marked
   abbrev pub marked : LaunchAnswer → Bool
   marked NothingPending = false
   marked Occupied = false
-  marked (Launches s) = sameKey (key.keyOf s) m
+  marked (Launches s) = m (key.keyOf s)
 
   abbrev pub hideLaunched : Launched → Launched
   hideLaunched o = record { next = hideT (o .next); answer = o .answer; payload = blankP (marked (o .answer)) (o .payload) }
@@ -240,7 +260,7 @@ module _ (m : Key) where
   unfolding launch
   hide-launch t = go (t .low)
     where
-      slot : (n : BufferNumber) (s : Slot) → at (t .buffers) (n .0) .slot ≡ s → launched (hideT t) n (blankP (holds m s) (at (t .buffers) (n .0) .payload)) s ≡ hideLaunched (launched t n (at (t .buffers) (n .0) .payload) s)
+      slot : (n : BufferNumber) (s : Slot) → at (t .buffers) (n .0) .slot ≡ s → launched (hideT t) n (blankP (covered m s) (at (t .buffers) (n .0) .payload)) s ≡ hideLaunched (launched t n (at (t .buffers) (n .0) .payload) s)
       slot n Empty e = refl
       slot n (Pending s p) e = refl
       slot n (Ready s r) e = refl
@@ -259,16 +279,16 @@ module _ (m : Key) where
   unfolding deliver
   hide-deliver t r l = rw (length-blank (shown (t .buffers) (t .low)) l) (go (resultLength r (length l)) (t .low))
     where
-      slot : (n : BufferNumber) (s : Slot) → at (t .buffers) (n .0) .slot ≡ s → delivered (hideT t) r (blank (holds m s) l) n s ≡ hideDelivered (delivered t r l n s)
+      slot : (n : BufferNumber) (s : Slot) → at (t .buffers) (n .0) .slot ≡ s → delivered (hideT t) r (blank (covered m s) l) n s ≡ hideDelivered (delivered t r l n s)
       slot n Empty e = refl
       slot n (Ready s x) e = refl
       slot n (Old s x) e = refl
       slot n (Pending s p) e = by (suits (s .pid) r)
         where
           by : (x : Bool)
-              → cond x (record { next = record { buffers = set (map hideB (t .buffers)) (n .0) (record { slot = Ready s r; payload = payloadOf (blank (sameKey (key.keyOf s) m) l) }); count = t .count; low = Idle }; answer = answer.Done }) (undelivered (hideT t) answer.NotInThisState)
+              → cond x (record { next = record { buffers = set (map hideB (t .buffers)) (n .0) (record { slot = Ready s r; payload = payloadOf (blank (m (key.keyOf s)) l) }); count = t .count; low = Idle }; answer = answer.Done }) (undelivered (hideT t) answer.NotInThisState)
               ≡ hideDelivered (cond x (record { next = record { buffers = set (t .buffers) (n .0) (record { slot = Ready s r; payload = payloadOf l }); count = t .count; low = Idle }; answer = answer.Done }) (undelivered t answer.NotInThisState))
-          by true = rw (blank-payload (sameKey (key.keyOf s) m) l, hide-set (t .buffers) (n .0) (record { slot = Ready s r; payload = payloadOf l }))
+          by true = rw (blank-payload (m (key.keyOf s)) l, hide-set (t .buffers) (n .0) (record { slot = Ready s r; payload = payloadOf l }))
           by false = refl
 
       go : (x : Bool) (low : LowSide) → cond x (deliverBy (hideT t) r (blank (shown (t .buffers) low) l) low) (undelivered (hideT t) answer.Outside)
@@ -285,3 +305,23 @@ module _ (m : Key) where
       go : (f : Found) → clearAt (hideT t) f ≡ hideT (clearAt t f)
       go Nowhere = refl
       go (At n) = rw (hide-set (t .buffers) (n .0) vacant)
+
+  pub hide-reset : (t : Translator) (z : Lane) → resetLane (hideT t) z ≡ hideT (resetLane t z)
+  unfolding resetLane
+  hide-reset t z = rw (all (t .buffers), low (t .low))
+    where
+      one : (b : Buffer) → withoutLane z (hideB b) ≡ hideB (withoutLane z b)
+      one b = go (inLane z (b .slot))
+        where
+          go : (x : Bool) → cond x vacant (hideB b) ≡ hideB (cond x vacant b)
+          go true = refl
+          go false = refl
+
+      all : (bs : List Buffer) → map (withoutLane z) (map hideB bs) ≡ map hideB (map (withoutLane z) bs)
+      all [] = refl
+      all (b ∷ bs) = ap₂ {C = List Buffer} _∷_ (one b) (all bs)
+
+      low : (l : LowSide) → lowWithoutLane z (map hideB (t .buffers)) l ≡ lowWithoutLane z (t .buffers) l
+      low Idle = refl
+      low (Running n) = rw (hide-at (t .buffers) (n .0))
+      low Abandoned = refl

@@ -9,11 +9,9 @@ use Rattle.payload.specs.declared.Payload.{Payload}
 use Rattle.ports.specs.Bitmap.{bitmapOf}
 use Rattle.ports.specs.declared.Sweep.the-variants.{Tick as Tick′}
 use Rattle.ports.specs.Sweep.{swept}
-use Rattle.buffer.specs.declared.Direction.{Direction}
-use Rattle.buffer.specs.declared.Direction.the-variants as direction
+use Rattle.buffer.specs.declared.Lane.{Lane}
 use Rattle.buffer.specs.declared.Key.{Key}
 use Rattle.buffer.specs.Key as key
-use Rattle.buffer.specs.Key.{sameKey}
 use Rattle.buffer.specs.Lengths.{startFits}
 use Rattle.translator.specs.declared.CompleteAnswer.{CompleteAnswer}
 use Rattle.translator.specs.declared.CompleteAnswer.the-variants.{NoMatch, NotYet, Gives}
@@ -22,9 +20,9 @@ use Rattle.translator.specs.declared.LaunchAnswer.the-variants.{NothingPending,
 use Rattle.translator.specs.CompleteSplit.{completeSplit}
 use Rattle.translator.specs.Launch.{launch}
 use Rattle.translator.specs.Clear.{clearBuffer}
-use Rattle.translator.specs.Translator.{emptied}
-use Rattle.numbers.specs.Named.{pidFrom, resultFrom, directionFrom}
-use Rattle.numbers.specs.Written.{directionNumber}
+use Rattle.translator.specs.ResetLane.{resetLane}
+use Rattle.numbers.proofs.Laws.{numbers-claims}
+use Rattle.numbers.specs.Named.{laneFrom, pidFrom, resultFrom}
 use Rattle.numbers.specs.Split.{splitNamed, splitFrom, keyFrom}
 use Rattle.request.specs.declared.Kind.{Kind}
 use Rattle.request.specs.declared.Kind.the-variants as kind
@@ -36,36 +34,38 @@ use Rattle.request.specs.Request.{requestOf}
 use Rattle.hub.specs.declared.Hub.{Hub}
 use Rattle.hub.specs.Hub.{withPorts, withTranslator, configuredAs, resetHub, tickedHub}
 use Rattle.hub.specs.Call.{Call, Control, Poll, Start, Complete, Launch, Deliver, Event as Line, Tick, BusReset, Answer, Outcome, plainAnswer, pidAnswer, plain, done, refuse, gives}
-use Rattle.hub.specs.Requests.{setFeature, clearFeature, byRequest, servedAlways, requested}
+use Rattle.hub.specs.Requests.{keyed, setFeature, clearFeature, byRequest, servedAlways, requested}
 use Rattle.hub.specs.Rules.{polled, completedBy, launchedBy}
 use Rattle.hub.specs.Step.{within, roomy, heard, fitting, served, firstRefusal, step}
-use Rattle.runs.specs.History.{Asks, nothing, starts, completes, launches, delivers, clears, empties, keyOf, requestAsks, asks, answerKey}
+use Rattle.runs.specs.History.{Asks, nothing, starts, completes, launches, delivers, clears, resets, empties, keyOf, requestAsks, asks, answerKey}
+use Rattle.runs.specs.Demand3.{Marks}
 use Rattle.runs.proofs.Steps.{start-key, complete-key}
-use Rattle.runs.proofs.Hiding.{blank, length-blank, blank-nil, blankP, blank-content, hideT, shown, marked, hide-start, hide-complete, hide-launch, hide-deliver, hide-clear}
+use Rattle.runs.proofs.Hiding.{blank, length-blank, blank-nil, blankP, blank-content, hideT, shown, marked, hide-start, hide-complete, hide-launch, hide-deliver, hide-clear, hide-reset}
 
-module _ (m : Key) where
+module _ (m : Marks) where
   abbrev pub hideH : Hub → Hub
   hideH h = withTranslator h (hideT m (h .translator))
 
   abbrev pub hideC : Hub → Call → Call
-  hideC h (Control s room) = Control s room
-  hideC h (Poll room) = Poll room
-  hideC h (Start p t f g a e l) = Start p t f g a e (blank (sameKey (keyOf a e (key.directionOf (pidFrom p))) m) l)
-  hideC h (Complete a e d room) = Complete a e d room
+  hideC h (Control z s room) = Control z s room
+  hideC h (Poll z room) = Poll z room
+  hideC h (Start z p t f g a e l) = Start z p t f g a e (blank (m (keyOf (laneFrom z) a e (key.directionOf (pidFrom p)))) l)
+  hideC h (Complete z a e d room) = Complete z a e d room
   hideC h (Launch room) = Launch room
   hideC h (Deliver r l) = Deliver r (blank (shown m (h .translator .buffers) (h .translator .low)) l)
   hideC h (Line e n) = Line e n
   hideC h Tick = Tick
   hideC h BusReset = BusReset
 
-  -- payload bytes launched for the mark or answered to complete-splits for it
+  -- payload bytes launched for a marked key or answered to complete-splits for it
   abbrev pub excepted : Asks → Answer → Bool
   excepted nothing a = false
   excepted (starts k) a = false
-  excepted (completes k) a = sameKey k m
-  excepted launches a = sameKey (answerKey a) m
+  excepted (completes k) a = m k
+  excepted launches a = m (answerKey a)
   excepted (delivers r l) a = false
   excepted (clears k) a = false
+  excepted (resets z) a = false
   excepted empties a = false
 
   abbrev pub hideA : Asks → Answer → Answer
@@ -74,6 +74,7 @@ module _ (m : Key) where
         number = a .number;
         pid = a .pid;
         transfer = a .transfer;
+        lane = a .lane;
         address = a .address;
         endpoint = a .endpoint;
         direction = a .direction;
@@ -93,50 +94,50 @@ module _ (m : Key) where
   hide-gives x h l e = rw e
 
   -- a request never gives payload bytes
-  request-shown : (k : Kind) (v : ℕ) (a : Answer) → excepted (requestAsks k v) a ≡ false
-  request-shown kind.Unknown v a = refl
-  request-shown kind.SetConfiguration v a = refl
-  request-shown kind.GetConfiguration v a = refl
-  request-shown kind.GetHubDescriptor v a = refl
-  request-shown kind.GetHubStatus v a = refl
-  request-shown kind.GetPortStatus v a = refl
-  request-shown kind.ClearHubFeature v a = refl
-  request-shown kind.ClearPortFeature v a = refl
-  request-shown kind.SetPortFeature v a = refl
-  request-shown kind.ClearTTBuffer v a = refl
-  request-shown kind.ResetTT v a = refl
+  request-shown : (y : Lane) (k : Kind) (v : ℕ) (a : Answer) → excepted (requestAsks y k v) a ≡ false
+  request-shown y kind.Unknown v a = refl
+  request-shown y kind.SetConfiguration v a = refl
+  request-shown y kind.GetConfiguration v a = refl
+  request-shown y kind.GetHubDescriptor v a = refl
+  request-shown y kind.GetHubStatus v a = refl
+  request-shown y kind.GetPortStatus v a = refl
+  request-shown y kind.ClearHubFeature v a = refl
+  request-shown y kind.ClearPortFeature v a = refl
+  request-shown y kind.SetPortFeature v a = refl
+  request-shown y kind.ClearTTBuffer v a = refl
+  request-shown y kind.ResetTT v a = refl
 
-  hide-request : (x : Asks) (h : Hub) (r : Request) → ((a : Answer) → excepted x a ≡ false) → byRequest (hideH h) r ≡ hideO x (byRequest h r)
+  hide-request : (x : Asks) (h : Hub) (y : Lane) (r : Request) → ((a : Answer) → excepted x a ≡ false) → byRequest (hideH h) y r ≡ hideO x (byRequest h y r)
   unfolding configuredAs
-  hide-request x h (Wrong f) n = hide-plain x h 2
-  hide-request x h (SetConfiguration on) n = hide-plain x (configuredAs on h) 0
-  hide-request x h GetConfiguration n = hide-gives x h _ (n _)
-  hide-request x h (GetHubDescriptor l) n = hide-gives x h _ (n _)
-  hide-request x h GetHubStatus n = hide-gives x h _ (n _)
-  hide-request x h (GetPortStatus p) n = hide-gives x h _ (n _)
-  hide-request x h ClearHubFeature n = hide-plain x h 0
-  hide-request x h (ClearPortFeature p f) n = hide-plain x (clearFeature h p f) 0
-  hide-request x h (SetPortFeature p f) n = hide-plain x (setFeature h p f) 0
-  hide-request x h (ClearTTBuffer k) n = rw (hide-clear m (h .translator) k) (hide-plain x (withTranslator h (clearBuffer (h .translator) k)) 0)
-  hide-request x h ResetTT n = hide-plain x (withTranslator h (emptied (h .translator))) 0
+  hide-request x h y (Wrong f) n = hide-plain x h 2
+  hide-request x h y (SetConfiguration on) n = hide-plain x (configuredAs on h) 0
+  hide-request x h y GetConfiguration n = hide-gives x h _ (n _)
+  hide-request x h y (GetHubDescriptor l) n = hide-gives x h _ (n _)
+  hide-request x h y GetHubStatus n = hide-gives x h _ (n _)
+  hide-request x h y (GetPortStatus p) n = hide-gives x h _ (n _)
+  hide-request x h y ClearHubFeature n = hide-plain x h 0
+  hide-request x h y (ClearPortFeature p f) n = hide-plain x (clearFeature h p f) 0
+  hide-request x h y (SetPortFeature p f) n = hide-plain x (setFeature h p f) 0
+  hide-request x h y (ClearTTBuffer k) n = rw (hide-clear m (h .translator) (keyed y k)) (hide-plain x (withTranslator h (clearBuffer (h .translator) (keyed y k))) 0)
+  hide-request x h y ResetTT n = rw (hide-reset m (h .translator) y) (hide-plain x (withTranslator h (resetLane (h .translator) y)) 0)
 
-  hide-control : (h : Hub) (s : List ℕ) (room : ℕ) → requested (hideH h) (requestOf (h .identity .ports) s) ≡ hideO (asks (Control s room)) (requested h (requestOf (h .identity .ports) s))
+  hide-control : (h : Hub) (z : ℕ) (s : List ℕ) (room : ℕ) → requested (hideH h) (laneFrom z) (requestOf (h .identity .ports) s) ≡ hideO (asks (Control z s room)) (requested h (laneFrom z) (requestOf (h .identity .ports) s))
   unfolding requested asks
-  hide-control h s room = go (h .configured || servedAlways r)
+  hide-control h z s room = go (h .configured || servedAlways r)
     where
       r : Request
       r = requestOf (h .identity .ports) s
 
       x : Asks
-      x = requestAsks (kindOf (setupOf s .requesttype) (setupOf s .code)) (setupOf s .value)
+      x = requestAsks (laneFrom z) (kindOf (setupOf s .requesttype) (setupOf s .code)) (setupOf s .value)
 
-      go : (b : Bool) → cond b (byRequest (hideH h) r) (refuse 2 (hideH h)) ≡ hideO x (cond b (byRequest h r) (refuse 2 h))
-      go true = hide-request x h r (request-shown (kindOf (setupOf s .requesttype) (setupOf s .code)) (setupOf s .value))
+      go : (b : Bool) → cond b (byRequest (hideH h) (laneFrom z) r) (refuse 2 (hideH h)) ≡ hideO x (cond b (byRequest h (laneFrom z) r) (refuse 2 h))
+      go true = hide-request x h (laneFrom z) r (request-shown (laneFrom z) (kindOf (setupOf s .requesttype) (setupOf s .code)) (setupOf s .value))
       go false = hide-plain x h 2
 
-  hide-poll : (h : Hub) (room : ℕ) → polled (hideH h) ≡ hideO (asks (Poll room)) (polled h)
+  hide-poll : (h : Hub) (z room : ℕ) → polled (hideH h) ≡ hideO (asks (Poll z room)) (polled h)
   unfolding polled asks
-  hide-poll h room = go (eqb (bitmapOf (h .identity .ports) (h .ports)) 0)
+  hide-poll h z room = go (eqb (bitmapOf (h .identity .ports) (h .ports)) 0)
     where
       go : (b : Bool) → cond b (refuse 3 (hideH h)) (gives (hideH h) (bitmapOf (h .identity .ports) (h .ports) ∷ []))
           ≡ hideO nothing (cond b (refuse 3 h) (gives h (bitmapOf (h .identity .ports) (h .ports) ∷ [])))
@@ -151,28 +152,24 @@ module _ (m : Key) where
       go true = refl
       go false = refl
 
-  hide-completed : (k : Key) (h : Hub) (a : CompleteAnswer) (p : Payload) → completedBy (hideH h) a (blankP (sameKey k m) p) ≡ hideO (completes k) (completedBy h a p)
+  hide-completed : (k : Key) (h : Hub) (a : CompleteAnswer) (p : Payload) → completedBy (hideH h) a (blankP (m k) p) ≡ hideO (completes k) (completedBy h a p)
   hide-completed k h NoMatch p = hide-plain (completes k) h 2
   hide-completed k h NotYet p = hide-plain (completes k) h 4
-  hide-completed k h (Gives r) p = rw (blank-content (sameKey k m) p)
-
-  direction-back : (d : Direction) → directionFrom (directionNumber d) ≡ d
-  direction-back direction.Out = refl
-  direction-back direction.In = refl
+  hide-completed k h (Gives r) p = rw (blank-content (m k) p)
 
   hide-launched : (h : Hub) (a : LaunchAnswer) (p : Payload) → launchedBy (hideH h) a (blankP (marked m a) p) ≡ hideO launches (launchedBy h a p)
   hide-launched h NothingPending p = hide-plain launches h 3
   hide-launched h Occupied p = hide-plain launches h 8
-  hide-launched h (Launches s) p = rw (direction-back (key.directionOf (s .pid)), blank-content (sameKey (key.keyOf s) m) p)
+  hide-launched h (Launches s) p = rw (numbers-claims .lanes .value-back (s .lane), numbers-claims .directions .value-back (key.directionOf (s .pid)), blank-content (m (key.keyOf s)) p)
 
   -- ---- one call
 
   hide-within : (h : Hub) (c : Call) → within (hideH h) (hideC h c) ≡ within h c
   unfolding within
-  hide-within h (Control s room) = refl
-  hide-within h (Poll room) = refl
-  hide-within h (Start p t f g a e l) = rw (length-blank (sameKey (keyOf a e (key.directionOf (pidFrom p))) m) l)
-  hide-within h (Complete a e d room) = refl
+  hide-within h (Control z s room) = refl
+  hide-within h (Poll z room) = refl
+  hide-within h (Start z p t f g a e l) = rw (length-blank (m (keyOf (laneFrom z) a e (key.directionOf (pidFrom p)))) l)
+  hide-within h (Complete z a e d room) = refl
   hide-within h (Launch room) = refl
   hide-within h (Deliver r l) = rw (length-blank (shown m (h .translator .buffers) (h .translator .low)) l)
   hide-within h (Line e n) = refl
@@ -181,10 +178,10 @@ module _ (m : Key) where
 
   hide-roomy : (h : Hub) (c : Call) → roomy (hideC h c) ≡ roomy c
   unfolding roomy
-  hide-roomy h (Control s room) = refl
-  hide-roomy h (Poll room) = refl
-  hide-roomy h (Start p t f g a e l) = refl
-  hide-roomy h (Complete a e d room) = refl
+  hide-roomy h (Control z s room) = refl
+  hide-roomy h (Poll z room) = refl
+  hide-roomy h (Start z p t f g a e l) = refl
+  hide-roomy h (Complete z a e d room) = refl
   hide-roomy h (Launch room) = refl
   hide-roomy h (Deliver r l) = refl
   hide-roomy h (Line e n) = refl
@@ -193,10 +190,10 @@ module _ (m : Key) where
 
   hide-heard : (h : Hub) (c : Call) → heard (hideH h) (hideC h c) ≡ heard h c
   unfolding heard
-  hide-heard h (Control s room) = refl
-  hide-heard h (Poll room) = refl
-  hide-heard h (Start p t f g a e l) = refl
-  hide-heard h (Complete a e d room) = refl
+  hide-heard h (Control z s room) = refl
+  hide-heard h (Poll z room) = refl
+  hide-heard h (Start z p t f g a e l) = refl
+  hide-heard h (Complete z a e d room) = refl
   hide-heard h (Launch room) = refl
   hide-heard h (Deliver r l) = refl
   hide-heard h (Line e n) = refl
@@ -205,10 +202,10 @@ module _ (m : Key) where
 
   hide-fitting : (h : Hub) (c : Call) → fitting (hideH h) (hideC h c) ≡ fitting h c
   unfolding fitting
-  hide-fitting h (Control s room) = refl
-  hide-fitting h (Poll room) = refl
-  hide-fitting h (Start p t f g a e l) = refl
-  hide-fitting h (Complete a e d room) = refl
+  hide-fitting h (Control z s room) = refl
+  hide-fitting h (Poll z room) = refl
+  hide-fitting h (Start z p t f g a e l) = refl
+  hide-fitting h (Complete z a e d room) = refl
   hide-fitting h (Launch room) = rw (hide-launch m (h .translator))
   hide-fitting h (Deliver r l) = rw (hide-deliver m (h .translator) (resultFrom r) l)
   hide-fitting h (Line e n) = refl
@@ -217,15 +214,15 @@ module _ (m : Key) where
 
   hide-served : (h : Hub) (c : Call) → within h c ≡ true → served (hideH h) (hideC h c) ≡ hideO (asks c) (served h c)
   unfolding served within asks resetHub
-  hide-served h (Control s room) w = hide-control h s room
-  hide-served h (Poll room) w = hide-poll h room
-  hide-served h (Start p t f g a e l) w =
-      let named = and-eq-true-iff (splitNamed p t f g a e) (startFits (splitFrom p t f g a e) (length l)) .0 w in
-      let same = ap (λ (k : Key). sameKey k m) (start-key p t f g a e (named .0)) in
-      rw (same, hide-start m (h .translator) (splitFrom p t f g a e) l)
-  hide-served h (Complete a e d room) w =
-      let o = completeSplit (h .translator) (keyFrom a e d) in
-      rw (hide-complete m (h .translator) (keyFrom a e d), complete-key a e d w) (hide-completed (keyFrom a e d) (withTranslator h (o .next)) (o .answer) (o .payload))
+  hide-served h (Control z s room) w = hide-control h z s room
+  hide-served h (Poll z room) w = hide-poll h z room
+  hide-served h (Start z p t f g a e l) w =
+      let named = and-eq-true-iff (splitNamed z p t f g a e) (startFits (splitFrom z p t f g a e) (length l)) .0 w in
+      let same = ap m (start-key z p t f g a e (named .0)) in
+      rw (same, hide-start m (h .translator) (splitFrom z p t f g a e) l)
+  hide-served h (Complete z a e d room) w =
+      let o = completeSplit (h .translator) (keyFrom z a e d) in
+      rw (hide-complete m (h .translator) (keyFrom z a e d), complete-key z a e d w) (hide-completed (keyFrom z a e d) (withTranslator h (o .next)) (o .answer) (o .payload))
   hide-served h (Launch room) w =
       let o = launch (h .translator) in
       rw (hide-launch m (h .translator)) (hide-launched (withTranslator h (o .next)) (o .answer) (o .payload))

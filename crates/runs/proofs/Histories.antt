@@ -4,16 +4,18 @@ use native.Mathlib.Omega.{arith}
 use mathlib.Core.Path.{_≡_, refl, sym, _∙_, ap, subst}
 use mathlib.Core.Option.{Option, none, some}
 use mathlib.Core.List.{List, [], _∷_}
-use mathlib.Core.Bool.{Bool, true, false, cond, not, _&&_, _||_, and-eq-true-iff, false≢true, and-false}
-use borrow.Author.Tests.{ne-eqb}
+use mathlib.Core.Bool.{Bool, true, false, cond, not, _&&_, _||_, and-eq-true-iff, false≢true, and-false, or-true}
+use borrow.Author.Tests.{eq-eqb, ne-eqb}
 use lib.ListN.{length}
 use lib.Dec.{eqb}
+use Rattle.buffer.specs.declared.Lane.{Lane}
 use Rattle.buffer.specs.declared.Key.{Key}
 use Rattle.buffer.specs.declared.DeviceResult.{DeviceResult}
-use Rattle.buffer.specs.Key.{sameKey}
+use Rattle.buffer.specs.Key.{sameLane, sameKey}
 use Rattle.buffer.proofs.Keys.{same-true, same-eq, same-ne, key?}
 use Rattle.hub.specs.Call.{Answer}
-use Rattle.runs.specs.History.{Event, History, Asks, nothing, starts, completes, launches, delivers, clears, empties, asks, answerKey, isDone, isResult, openAfter, isOpen, stores, lastStored, For, forAfter, lastFor, isAt, isFor, dataOf, deliveredFor}
+use Rattle.runs.specs.History.{Event, History, Asks, nothing, starts, completes, launches, delivers, clears, resets, empties, asks, answerKey, isDone, isResult, openAfter, isOpen, stores, lastStored, For, forAfter, lastFor, isAt, isFor, dataOf, deliveredFor}
+use Rattle.runs.specs.Tally.{answersIt, isAnsweredAt}
 
 -- ---- the place of a stored start-split is in the history
 
@@ -58,6 +60,7 @@ for-below (e ∷ h) = go (asks (e .call)) (lastFor h) (for-below h)
     go launches o b = by (eqb (e .answer .number) 1) (answerKey (e .answer)) o b
     go (delivers r l) o b = up o b
     go (clears k) o b = up o b
+    go (resets z) o b = up o b
     go empties o b = up o b
 
 -- nothing was launched or delivered for a start-split that is yet to come
@@ -93,6 +96,7 @@ stores-key (completes k′) a k l o u e f = absurd (false≢true e)
 stores-key launches a k l o u e f = absurd (false≢true e)
 stores-key (delivers r x) a k l o u e f = absurd (false≢true e)
 stores-key (clears k′) a k l o u e f = absurd (false≢true e)
+stores-key (resets z) a k l o u e f = absurd (false≢true e)
 stores-key empties a k l o u e f = absurd (false≢true e)
 
 pub not-new : (h : History) (k : Key) {s : ℕ} → lastStored h k ≡ some s → length h ≡ s → ⊥
@@ -182,6 +186,7 @@ module _ (a : Answer) (r : Refused a) where
   open-refused launches k o = refl
   open-refused (delivers x l) k o = refl
   open-refused (clears l) k o = rw (r .not-0)
+  open-refused (resets z) k o = rw (r .not-0)
   open-refused empties k o = rw (r .not-0)
 
   stores-refused : (x : Asks) (k : Key) (o : Bool) → stores x a k o ≡ false
@@ -192,6 +197,7 @@ module _ (a : Answer) (r : Refused a) where
   stores-refused launches k o = refl
   stores-refused (delivers x l) k o = refl
   stores-refused (clears l) k o = refl
+  stores-refused (resets z) k o = refl
   stores-refused empties k o = refl
 
   for-refused : (x : Asks) (h : History) (l : Option For) → forAfter x a h l ≡ l
@@ -202,6 +208,7 @@ module _ (a : Answer) (r : Refused a) where
   for-refused launches h l = rw (r .not-1)
   for-refused (delivers x y) h l = refl
   for-refused (clears k) h l = refl
+  for-refused (resets z) h l = refl
   for-refused empties h l = refl
 
   data-refused : (x : Asks) → dataOf x a ≡ []
@@ -211,6 +218,7 @@ module _ (a : Answer) (r : Refused a) where
   data-refused launches = refl
   data-refused (delivers x l) = rw (r .not-0)
   data-refused (clears k) = refl
+  data-refused (resets z) = refl
   data-refused empties = refl
 
 pub silent-refused : (h : History) (e : Event) → Refused (e .answer) → Silent h e
@@ -335,3 +343,39 @@ module _ (h : History) (e : Event) where
   pub empty-closes : asks (e .call) ≡ empties → isDone (e .answer) ≡ true → (k : Key) → isOpen (e ∷ h) k ≡ false
   unfolding isOpen openAfter
   empty-closes q d k = rw (q, d)
+
+-- the keys of another lane
+abbrev pub Other : Lane → Key → Type 0
+Other z k = sameLane (k .lane) z ≡ false
+
+-- ResetTT from a lane, answered 0
+module _ (h : History) (e : Event) (z : Lane) (q : asks (e .call) ≡ resets z) (d : isDone (e .answer) ≡ true) where
+  pub keeps-reset : Keeps h e (Other z)
+  unfolding openAfter stores
+  keeps-reset = keeps-by h e (Other z) (λ k n. rw (q, d, n)) (λ k n. rw q)
+
+  pub reset-closes : (k : Key) → sameLane (k .lane) z ≡ true → isOpen (e ∷ h) k ≡ false
+  unfolding isOpen openAfter
+  reset-closes k n = rw (q, d, n)
+
+  pub reset-stores : (k : Key) → lastStored (e ∷ h) k ≡ lastStored h k
+  unfolding lastStored stores
+  reset-stores k = rw q
+
+  pub reset-for : lastFor (e ∷ h) ≡ lastFor h
+  unfolding lastFor forAfter
+  reset-for = rw q
+
+  pub reset-data : (s : ℕ) → deliveredFor (e ∷ h) s ≡ deliveredFor h s
+  reset-data = no-data h e (ap (λ (x : Asks). dataOf x (e .answer)) q)
+
+-- ---- answered start-splits
+
+pub stays-answered : (h : History) (e : Event) (s : ℕ) → isAnsweredAt h s ≡ true → isAnsweredAt (e ∷ h) s ≡ true
+unfolding isAnsweredAt
+stays-answered h e s p = rw p (or-true (answersIt (asks (e .call)) (e .answer) h s))
+
+-- by a complete-split answered 1 or 9 under the key that it was last stored under
+pub now-answered : (h : History) (e : Event) (k : Key) (s : ℕ) → asks (e .call) ≡ completes k → isResult (e .answer) ≡ true → lastStored h k ≡ some s → isAnsweredAt (e ∷ h) s ≡ true
+unfolding isAnsweredAt answersIt
+now-answered h e k s q r l = rw (q, r, l, eq-eqb s s refl)

@@ -3,13 +3,14 @@ use Prim.Native.Nat.{ℕ, zero, suc, _<_, _≤_}
 use native.Mathlib.Decide.{ℕ-discrete}
 use mathlib.Core.Path.{_≡_, refl, sym, _∙_, ap, subst}
 use mathlib.Core.Option.{Option, none, some}
-use mathlib.Core.List.{List, [], _∷_, append-nil}
+use mathlib.Core.List.{List, [], _∷_, map, append-nil}
 use mathlib.Core.Bool.{Bool, true, false, cond, true≢false, false≢true}
 use borrow.Author.Tests.{eq-eqb, ne-eqb, eqb-true, eqb-false}
 use lib.ListN.{length, set, replicate}
 use lib.Dec.{eqb}
 use Rattle.payload.specs.Payload.{content, payloadOf}
 use Rattle.payload.proofs.Laws.{content-of}
+use Rattle.buffer.specs.declared.Lane.{Lane}
 use Rattle.buffer.specs.declared.Key.{Key}
 use Rattle.buffer.specs.declared.StartSplit.{StartSplit}
 use Rattle.buffer.specs.declared.DeviceResult.{DeviceResult}
@@ -19,18 +20,20 @@ use Rattle.buffer.specs.declared.Buffer.{Buffer}
 use Rattle.buffer.specs.declared.BufferNumber.{BufferNumber}
 use Rattle.buffer.specs.Key as key
 use Rattle.buffer.specs.Lengths.{isData}
-use Rattle.buffer.specs.Buffer.{vacant, isActive, isFree, holds}
+use Rattle.buffer.specs.Buffer.{vacant, isActive, isFree, holds, inLane}
 use Rattle.buffer.proofs.Keys.{same-true, same-refl, same-eq, key?}
 use Rattle.translator.specs.declared.LowSide.{LowSide}
 use Rattle.translator.specs.declared.LowSide.the-variants.{Idle, Running, Abandoned}
 use Rattle.translator.specs.Translator.{at}
 use Rattle.translator.specs.Order.{reranked, rankedIn, ranked}
 use Rattle.translator.specs.Clear.{lowWithout}
+use Rattle.translator.specs.ResetLane.{withoutLane, lowWithoutLane}
 use Rattle.translator.specs.Answers.{resultPid}
 use Rattle.translator.specs.Valid.{Apart}
-use Rattle.translator.proofs.At.{inside, at-same, at-other, at-cases, at-ranked, holds-reranked}
-use Rattle.runs.specs.History.{Event, History, starts, completes, launches, delivers, clears, asks, answerKey, isDone, isResult, isOpen, lastStored, For, lastFor, isAt, isFor, Delivered, deliveredFor}
-use Rattle.runs.proofs.Histories.{fresh, fresh-for, one-key, Keeps, Any, Else, Silent, not-for-it, keeps-start, start-opens, start-stores, start-for, start-data, keeps-repeat, keeps-complete, complete-closes, complete-stores, complete-closed, complete-for, complete-data, keeps-clear, clear-closes, keeps-closed, clear-for, clear-data, keeps-launch, launch-data, launch-for, keeps-deliver}
+use Rattle.translator.proofs.At.{inside, at-same, at-other, at-cases, at-ranked, at-without-lane, holds-reranked}
+use Rattle.runs.specs.History.{Event, History, starts, completes, launches, delivers, clears, resets, asks, answerKey, isDone, isResult, isOpen, lastStored, For, lastFor, isAt, isFor, Delivered, deliveredFor}
+use Rattle.runs.specs.Tally.{isAnsweredAt}
+use Rattle.runs.proofs.Histories.{fresh, fresh-for, one-key, Keeps, Any, Else, Silent, not-for-it, keeps-start, start-opens, start-stores, start-for, start-data, keeps-repeat, keeps-complete, complete-closes, complete-stores, complete-closed, complete-for, complete-data, keeps-clear, clear-closes, keeps-closed, clear-for, clear-data, keeps-launch, launch-data, launch-for, keeps-deliver, stays-answered, now-answered, Other, keeps-reset, reset-closes, reset-stores, reset-for, reset-data}
 
 -- the data that a buffer has from the low side
 abbrev pub gotten : Slot → List ℕ → List Delivered
@@ -45,6 +48,8 @@ pub record Good (h : History) (k : Key) (b : Buffer) : Type 0 where
   pub place : ℕ
   pub placed : lastStored h k ≡ some place
   pub got : deliveredFor h place ≡ gotten (b .slot) (content (b .payload))
+  -- what is old was answered
+  pub aged : isActive (b .slot) ≡ false → isAnsweredAt h place ≡ true
 
 -- what runs is what the last launch answered 1 was for
 abbrev pub RunsFor : History → Slot → Type 0
@@ -77,8 +82,8 @@ for-same {k} e = ap (λ (x : Option ℕ). some (record { key = k; place = x })) 
 
 good-kept : {h : History} {e : Event} {P : Key → Type 0} {k : Key} {b : Buffer} → Keeps h e P → P k
     → ((s : ℕ) → deliveredFor (e ∷ h) s ≡ deliveredFor h s) → Good h k b → Good (e ∷ h) k b
-good-kept {k = k} kp p d g =
-    record { opened = kp .open-kept k p ∙ g .opened; place = g .place; placed = kp .stored-kept k p ∙ g .placed; got = d (g .place) ∙ g .got }
+good-kept {h} {e} {k = k} kp p d g =
+    record { opened = kp .open-kept k p ∙ g .opened; place = g .place; placed = kp .stored-kept k p ∙ g .placed; got = d (g .place) ∙ g .got; aged = λ o. stays-answered h e (g .place) (g .aged o) }
 
 runs-kept : {h : History} {e : Event} {P : Key → Type 0} → Keeps h e P → lastFor (e ∷ h) ≡ lastFor h → (s : Slot)
     → ((k : Key) → holds k s ≡ true → P k) → RunsFor h s → RunsFor (e ∷ h) s
@@ -210,6 +215,7 @@ inv-ranked {h} bs low inv =
           place = g .place;
           placed = g .placed;
           got = g .got ∙ sym (gotten-reranked bs (at bs i .slot) (content (at bs i .payload)));
+          aged = λ o. g .aged (sym (active-reranked bs (at bs i .slot)) ∙ o);
         }
 
     go : (l : LowSide) → LowOk h bs l → LowOk h (ranked bs) l
@@ -271,6 +277,7 @@ module _ (h : History) (e : Event) (bs : List Buffer) (low : LowSide) (inv : Inv
             place = length h;
             placed = stored-now;
             got = data-same (length h) ∙ fresh h;
+            aged = λ o. absurd (true≢false o);
           })
 
       go : (x : LowSide) → LowOk h bs x → LowOk (e ∷ h) (set bs i b) x
@@ -330,6 +337,7 @@ module _ (h : History) (e : Event) (bs : List Buffer) (low : LowSide) (inv : Inv
             place = g .place;
             placed = complete-stores h e k q k ∙ g .placed;
             got = data-same (g .place) ∙ g .got ∙ ap (λ (z : Slot). gotten z (content (at bs i .payload))) is;
+            aged = λ _. now-answered h e k (g .place) q res (g .placed);
           })
 
       go : (x : LowSide) → LowOk h bs x → LowOk (e ∷ h) (set bs i b) x
@@ -361,6 +369,7 @@ module _ (h : History) (e : Event) (bs : List Buffer) (low : LowSide) (inv : Inv
             place = g .place;
             placed = complete-stores h e k q x ∙ g .placed;
             got = complete-data h e k q (g .place) ∙ g .got;
+            aged = λ o. stays-answered h e (g .place) (g .aged o);
           }
 
       run : (s : Slot) → RunsFor h s → RunsFor (e ∷ h) s
@@ -432,6 +441,7 @@ module _ (h : History) (e : Event) (bs : List Buffer) (low : LowSide) (inv : Inv
             place = g .place;
             placed = kp .stored-kept (key.keyOf s) tt ∙ g .placed;
             got = rw (is-for (g .place), eq-eqb (g .place) (g .place) refl, q, d, g .got, is, content-of l short) (append-nil _);
+            aged = λ o. absurd (true≢false o);
           })
 
       old : (j : ℕ) (x : Key) → ¬ (j ≡ n .0) → holds x (at bs j .slot) ≡ true → Good (e ∷ h) x (at bs j)
@@ -447,6 +457,7 @@ module _ (h : History) (e : Event) (bs : List Buffer) (low : LowSide) (inv : Inv
                 ∙ ne-eqb (g .place) (o .place)
                 (λ y. ne (apart j (n .0) (ap (λ (z : Key). holds z (at bs j .slot)) (one-key h (key.keyOf s) x (o .place) (g .placed ∙ ap some y) (o .placed)) ∙ hd) holding)))
                 ∙ o .got;
+            aged = λ y. stays-answered h e (o .place) (o .aged y);
           }
 
   -- the result of an abandoned transaction is thrown away
@@ -477,6 +488,7 @@ module _ (h : History) (e : Event) (bs : List Buffer) (low : LowSide) (inv : Inv
             place = o .place;
             placed = kp .stored-kept x tt ∙ o .placed;
             got = not-for-it h e (o .place) (other (lastFor h) refl j x hd (o .place) (o .placed)) ∙ o .got;
+            aged = λ y. stays-answered h e (o .place) (o .aged y);
           }
 
   -- the buffer of the key k is emptied
@@ -569,3 +581,77 @@ empty-kept h closed =
       closed = λ k _. closed k;
       low-ok = tt;
     }
+
+-- ---- a lane's buffers are emptied
+
+-- a buffer's lane is that of its key
+pub lane-of : (z : Lane) (k : Key) (s : Slot) → holds k s ≡ true → inLane z s ≡ key.sameLane (k .lane) z
+lane-of z k Empty e = absurd (false≢true e)
+lane-of z k (Pending s p) e = ap (λ (x : Key). key.sameLane (x .lane) z) (same-true (key.keyOf s) k e)
+lane-of z k (Ready s r) e = ap (λ (x : Key). key.sameLane (x .lane) z) (same-true (key.keyOf s) k e)
+lane-of z k (Old s r) e = ap (λ (x : Key). key.sameLane (x .lane) z) (same-true (key.keyOf s) k e)
+
+-- what passes a test that an empty buffer fails was left as it was
+pub record Spared (z : Lane) (f : Slot → Bool) (bs : List Buffer) (i : ℕ) : Type 0 where
+  pub same : at (map (withoutLane z) bs) i ≡ at bs i
+  pub passes : f (at bs i .slot) ≡ true
+  pub other : inLane z (at bs i .slot) ≡ false
+
+pub spared : (z : Lane) (f : Slot → Bool) → f Empty ≡ false → (bs : List Buffer) (i : ℕ) → f (at (map (withoutLane z) bs) i .slot) ≡ true → Spared z f bs i
+spared z f off bs i e = go (inLane z (at bs i .slot)) refl (ap (λ (b : Buffer). f (b .slot)) (sym (at-without-lane z bs i)) ∙ e)
+  where
+    go : (x : Bool) → inLane z (at bs i .slot) ≡ x → f (cond x vacant (at bs i) .slot) ≡ true → Spared z f bs i
+    go true n p = absurd (true≢false (sym p ∙ off))
+    go false n p = record { same = at-without-lane z bs i ∙ ap (λ (x : Bool). cond x vacant (at bs i)) n; passes = p; other = n }
+
+-- the buffer of another lane is left as it was
+pub left-alone : (z : Lane) (bs : List Buffer) (i : ℕ) → inLane z (at bs i .slot) ≡ false → at (map (withoutLane z) bs) i ≡ at bs i
+left-alone z bs i n = at-without-lane z bs i ∙ ap (λ (x : Bool). cond x vacant (at bs i)) n
+
+module _ (h : History) (e : Event) (bs : List Buffer) (low : LowSide) (inv : Inv h bs low) (z : Lane) (q : asks (e .call) ≡ resets z) (d : isDone (e .answer) ≡ true) where
+  kp : Keeps h e (Other z)
+  kp = keeps-reset h e z q d
+
+  spared-key : (k : Key) (i : ℕ) → holds k (at (map (withoutLane z) bs) i .slot) ≡ true → Other z k
+  spared-key k i hd = let s = spared z (holds k) refl bs i hd in sym (lane-of z k (at bs i .slot) (s .passes)) ∙ s .other
+
+  pub reset-kept : Inv (e ∷ h) (map (withoutLane z) bs) (lowWithoutLane z bs low)
+  reset-kept =
+      record {
+        good = λ i k hd.
+            let s = spared z (holds k) refl bs i hd in
+            subst (Good (e ∷ h) k) (sym (s .same)) (good-kept kp (spared-key k i hd) (reset-data h e z q d) (inv .good i k (s .passes)));
+        closed = λ k u. shut k u (key.sameLane (k .lane) z) refl;
+        low-ok = go low (inv .low-ok);
+      }
+    where
+      shut : (k : Key) → Unheld k (map (withoutLane z) bs) → (x : Bool) → key.sameLane (k .lane) z ≡ x → isOpen (e ∷ h) k ≡ false
+      shut k u true y = reset-closes h e z q d k y
+      shut k u false y = kp .open-kept k y ∙ inv .closed k (λ i. by i (holds k (at bs i .slot)) refl)
+        where
+          by : (i : ℕ) (x : Bool) → holds k (at bs i .slot) ≡ x → x ≡ false
+          by i true hd = sym hd ∙ (ap (λ (b : Buffer). holds k (b .slot)) (sym (left-alone z bs i (lane-of z k (at bs i .slot) hd ∙ y))) ∙ u i)
+          by i false hd = refl
+
+      -- the start-split that was launched is held nowhere any more
+      left : (s : Slot) → inLane z s ≡ true → RunsFor h s → LowOk (e ∷ h) (map (withoutLane z) bs) Abandoned
+      left Empty n w = absurd w
+      left (Ready s r) n w = absurd w
+      left (Old s r) n w = absurd w
+      left (Pending s p) n w = λ l g i k hd y.
+          let a : Good h k (at bs i) = inv .good i k (spared z (holds k) refl bs i hd .passes) in
+          let stored-same : lastStored h (key.keyOf s) ≡ lastStored h k =
+          ap (λ (c : For). c .place) (for-inj (sym w ∙ (sym (reset-for h e z q d) ∙ g))) ∙ y ∙ reset-stores h e z q d k in
+          let one : key.keyOf s ≡ k = one-key h (key.keyOf s) k (a .place) (stored-same ∙ a .placed) (a .placed) in
+          true≢false (sym n ∙ ap (λ (x : Key). key.sameLane (x .lane) z) one ∙ spared-key k i hd)
+
+      go : (x : LowSide) → LowOk h bs x → LowOk (e ∷ h) (map (withoutLane z) bs) (lowWithoutLane z bs x)
+      go Idle w = tt
+      go Abandoned w = λ l g i k hd y. w l (sym (reset-for h e z q d) ∙ g) i k (spared z (holds k) refl bs i hd .passes) (y ∙ reset-stores h e z q d k)
+      go (Running n) w = by (inLane z (at bs (n .0) .slot)) refl
+        where
+          by : (x : Bool) → inLane z (at bs (n .0) .slot) ≡ x → LowOk (e ∷ h) (map (withoutLane z) bs) (cond x Abandoned (Running n))
+          by true y = left (at bs (n .0) .slot) y w
+          by false y =
+              subst (λ (b : Buffer). RunsFor (e ∷ h) (b .slot)) (sym (left-alone z bs (n .0) y))
+              (runs-kept kp (reset-for h e z q d) (at bs (n .0) .slot) (λ k hd. sym (lane-of z k (at bs (n .0) .slot) hd) ∙ y) w)

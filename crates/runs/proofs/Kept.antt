@@ -9,9 +9,8 @@ use lib.Dec.{eqb}
 use lib.ListN.{length, take, set}
 use Rattle.payload.specs.declared.Payload.{Payload}
 use Rattle.payload.specs.Payload.{content, noPayload, payloadOf}
+use Rattle.buffer.specs.declared.Lane.{Lane}
 use Rattle.buffer.specs.declared.Key.{Key}
-use Rattle.buffer.specs.declared.Direction.{Direction}
-use Rattle.buffer.specs.declared.Direction.the-variants as direction
 use Rattle.buffer.specs.declared.StartSplit.{StartSplit}
 use Rattle.buffer.specs.declared.DeviceResult.{DeviceResult}
 use Rattle.buffer.specs.declared.DeviceResult.the-variants as result
@@ -29,7 +28,7 @@ use Rattle.translator.specs.declared.LowSide.the-variants.{Idle, Running, Aband
 use Rattle.translator.specs.declared.Found.{Found}
 use Rattle.translator.specs.declared.Found.the-variants.{Nowhere, At}
 use Rattle.translator.specs.declared.Choice.{Choice}
-use Rattle.translator.specs.declared.Choice.the-variants.{NoRoom, Held, Reused, Took}
+use Rattle.translator.specs.declared.Choice.the-variants.{NoRoom, LimitReached, Held, Reused, Took}
 use Rattle.translator.specs.declared.LaunchAnswer.{LaunchAnswer}
 use Rattle.translator.specs.declared.LaunchAnswer.the-variants.{NothingPending, Occupied, Launches}
 use Rattle.translator.specs.declared.StartAnswer.the-variants as start
@@ -37,28 +36,29 @@ use Rattle.translator.specs.declared.DeliverAnswer.the-variants as deliver
 use Rattle.translator.specs.declared.Started.{Started}
 use Rattle.translator.specs.declared.Delivered.{Delivered}
 use Rattle.translator.specs.Translator.{at, emptied}
-use Rattle.translator.specs.Search.{find, chosen}
+use Rattle.translator.specs.Search.{find}
+use Rattle.translator.specs.Limit.{permitted}
 use Rattle.translator.specs.Order.{waiting, ranked}
 use Rattle.translator.specs.StartSplit.{stored, startBy, startSplit}
 use Rattle.translator.specs.CompleteSplit.{given, completed, completeAt, completeSplit}
 use Rattle.translator.specs.Launch.{launch}
 use Rattle.translator.specs.Deliver as delivering
 use Rattle.translator.specs.Clear.{clearAt, clearBuffer}
+use Rattle.translator.specs.ResetLane.{resetLane}
 use Rattle.translator.specs.Answers.{isRefusal, startNumber, resultNumber, resultPid, launchNumber, deliverNumber}
 use Rattle.translator.specs.Valid.{ValidTranslator}
 use Rattle.translator.proofs.At.{inside, length-ranked}
-use Rattle.translator.proofs.Finding.{Hit, FindSays, find-says, ChosenSays, chosen-says}
-use Rattle.translator.proofs.Kept.{in-use, start-valid, complete-valid, launch-valid, deliver-valid, clear-valid, new-valid, result-le}
+use Rattle.translator.proofs.Finding.{Hit, FindSays, find-says, PermittedSays, permitted-says}
+use Rattle.translator.proofs.Kept.{in-use, start-valid, complete-valid, launch-valid, deliver-valid, clear-valid, reset-valid, new-valid, result-le}
 use Rattle.translator.proofs.Calls.{LaunchedAs, launched-as, refused-same}
-use Rattle.numbers.specs.Named.{directionFrom}
-use Rattle.numbers.specs.Written.{directionNumber}
+use Rattle.numbers.proofs.Laws.{numbers-claims}
 use Rattle.hub.specs.declared.Hub.{Hub}
 use Rattle.hub.specs.Call.{Call, Answer, plainAnswer, pidAnswer}
 use Rattle.hub.specs.Rules.{completedBy, launchAnswer, launchedBy}
-use Rattle.runs.specs.History.{Event, History, Asks, nothing, starts, completes, launches, delivers, clears, empties, keyOf, asks, lastStored, deliveredTo}
+use Rattle.runs.specs.History.{Event, History, Asks, nothing, starts, completes, launches, delivers, clears, resets, empties, keyOf, asks, lastStored, deliveredTo}
 use Rattle.runs.specs.Demand3.{Explained}
 use Rattle.runs.proofs.Histories.{silent-nothing, silent-refused, Refused, empty-closes}
-use Rattle.runs.proofs.Invariant.{gotten, Good, Inv, LowOk, Unheld, quiet, held-ranked, inv-ranked, free-ranked, into-kept, aged-kept, again-kept, launch-kept, delivered-kept, thrown-kept, clear-kept, closed-kept, repeat-kept, empty-kept}
+use Rattle.runs.proofs.Invariant.{gotten, Good, Inv, LowOk, Unheld, quiet, held-ranked, inv-ranked, free-ranked, into-kept, aged-kept, again-kept, launch-kept, delivered-kept, thrown-kept, clear-kept, closed-kept, repeat-kept, reset-kept, empty-kept}
 
 abbrev pub ev : Call → Answer → Event
 ev c a = record { call = c; answer = a }
@@ -79,6 +79,7 @@ explained-else h (completes k) a n = λ q. absurd (eqb-false (a .number) 1 n q)
 explained-else h launches a n = tt
 explained-else h (delivers r l) a n = tt
 explained-else h (clears k) a n = tt
+explained-else h (resets z) a n = tt
 explained-else h empties a n = tt
 
 module _ (h : History) (t : Translator) (tied : Tied h t) where
@@ -110,43 +111,44 @@ module _ (h : History) (t : Translator) (tied : Tied h t) where
       bs = t .buffers
 
   start-by : (c : Call) (s : StartSplit) (l : List ℕ) → asks c ≡ starts (key.keyOf s) → startFits s (length l) ≡ true
-      → (x : Choice) → ChosenSays (key.keyOf s) (t .count) (t .buffers) x → ValidTranslator (startBy t s l x .next)
+      → (x : Choice) → PermittedSays (t .count) (key.keyOf s) (t .count) (t .buffers) x → ValidTranslator (startBy t s l x .next)
       → Kept h c (startBy t s l x .next) (plainAnswer (startNumber (startBy t s l x .answer)))
   unfolding stored
   start-by c s l q f NoRoom r v = refused-kept c (plainAnswer 3) (record { not-0 = refl; not-1 = refl; not-9 = refl })
+  start-by c s l q f LimitReached r v = refused-kept c (plainAnswer 3) (record { not-0 = refl; not-1 = refl; not-9 = refl })
   start-by c s l q f (Held n) r v = (
     record { valid = v; inv = repeat-kept h (ev c (plainAnswer 0)) (t .buffers) (t .low) (tied .inv) (key.keyOf s) (n .0) q refl (r .found .passes) (r .active) },
     explained-else h (asks c) (plainAnswer 0) refl,
   )
   start-by c s l q f (Reused n) r v = (
-    record { valid = v; inv = store-inv c s l n q (r .found .inside) (active-free (at (t .buffers) (n .0) .slot) (r .active)) (λ j hd. tied .valid .keys (key.keyOf s) j (n .0) hd (r .found .passes)) },
+    record { valid = v; inv = store-inv c s l n q (r .says .found .inside) (active-free (at (t .buffers) (n .0) .slot) (r .says .active)) (λ j hd. tied .valid .keys (key.keyOf s) j (n .0) hd (r .says .found .passes)) },
     explained-else h (asks c) (plainAnswer 0) refl,
   )
   start-by c s l q f (Took n) r v = (
-    record { valid = v; inv = store-inv c s l n q (r .free .inside) (r .free .passes) (λ j hd. absurd (true≢false (sym hd ∙ none-holds j hd))) },
+    record { valid = v; inv = store-inv c s l n q (r .says .free .inside) (r .says .free .passes) (λ j hd. absurd (true≢false (sym hd ∙ none-holds j hd))) },
     explained-else h (asks c) (plainAnswer 0) refl,
   )
     where
       none-holds : (j : ℕ) → holds (key.keyOf s) (at (t .buffers) j .slot) ≡ true → holds (key.keyOf s) (at (t .buffers) j .slot) ≡ false
-      none-holds j hd = r .none j (in-use t (tied .valid) (holds (key.keyOf s)) refl j hd) (inside (holds (key.keyOf s)) refl (t .buffers) j hd)
+      none-holds j hd = r .says .none j (in-use t (tied .valid) (holds (key.keyOf s)) refl j hd) (inside (holds (key.keyOf s)) refl (t .buffers) j hd)
 
   pub start-kept : (c : Call) (s : StartSplit) (l : List ℕ) → asks c ≡ starts (key.keyOf s) → startFits s (length l) ≡ true
       → Kept h c (startSplit t s l .next) (plainAnswer (startNumber (startSplit t s l .answer)))
   unfolding startSplit
   start-kept c s l q f =
       subst (λ (x : Bool). Kept h c (cond x by-choice none .next) (plainAnswer (startNumber (cond x by-choice none .answer)))) (sym f)
-      (start-by c s l q f x (chosen-says (key.keyOf s) (t .count) (t .buffers)) valid)
+      (start-by c s l q f x (permitted-says (t .count) (key.keyOf s) (t .count) (t .buffers)) valid)
     where
       x : Choice
-      x = chosen (key.keyOf s) (take (t .count) (t .buffers))
+      x = permitted (t .count) (key.keyOf s) (take (t .count) (t .buffers))
 
       by-choice : Started
-      by-choice = startBy t s l (chosen (key.keyOf s) (take (t .count) (t .buffers)))
+      by-choice = startBy t s l (permitted (t .count) (key.keyOf s) (take (t .count) (t .buffers)))
 
       none : Started
       none = record { next = t; answer = start.Outside }
 
-      valid : ValidTranslator (startBy t s l (chosen (key.keyOf s) (take (t .count) (t .buffers))) .next)
+      valid : ValidTranslator (startBy t s l (permitted (t .count) (key.keyOf s) (take (t .count) (t .buffers))) .next)
       valid = subst (λ (y : Bool). ValidTranslator (cond y by-choice none .next)) f (start-valid t (tied .valid) s l)
 
   -- ---- complete-split
@@ -210,10 +212,6 @@ module _ (h : History) (t : Translator) (tied : Tied h t) where
 
   -- ---- launch
 
-  direction-back : (d : Direction) → directionFrom (directionNumber d) ≡ d
-  direction-back direction.Out = refl
-  direction-back direction.In = refl
-
   pub launch-said : (hub : Hub) (c : Call) → asks c ≡ launches → Kept h c (launch t .next) (launchedBy hub (launch t .answer) (launch t .payload) .answer)
   launch-said hub c q = go (launch t .answer) refl (launched-as t (tied .valid)) (launch-valid t (tied .valid))
     where
@@ -232,7 +230,7 @@ module _ (h : History) (t : Translator) (tied : Tied h t) where
           inv =
               subst (λ (u : Translator). Inv (ev c (launchAnswer s (content p)) ∷ h) (u .buffers) (u .low)) (sym (g .next))
               (launch-kept h (ev c (launchAnswer s (content p))) (t .buffers) (t .low) (tied .inv) (g .number) s (g .place) q refl (g .pending)
-              (ap (keyOf (s .address .0) (s .endpoint)) (direction-back (key.directionOf (s .pid)))));
+              (rw (numbers-claims .lanes .value-back (s .lane), numbers-claims .directions .value-back (key.directionOf (s .pid)))));
         },
         subst (λ (x : Asks). Explained x (launchAnswer s (content p)) h) (sym q) tt,
       )
@@ -300,6 +298,13 @@ module _ (h : History) (t : Translator) (tied : Tied h t) where
         record { valid = v; inv = clear-kept h (ev c (plainAnswer 0)) (t .buffers) (t .low) (tied .inv) k n q refl (r .inside) (r .passes) (tied .valid .keys) },
         explained-else h (asks c) (plainAnswer 0) refl,
       )
+
+  pub reset-said : (c : Call) (z : Lane) → asks c ≡ resets z → Kept h c (resetLane t z) (plainAnswer 0)
+  unfolding resetLane
+  reset-said c z q = (
+    record { valid = reset-valid t (tied .valid) z; inv = reset-kept h (ev c (plainAnswer 0)) (t .buffers) (t .low) (tied .inv) z q refl },
+    explained-else h (asks c) (plainAnswer 0) refl,
+  )
 
   pub empty-said : (c : Call) → asks c ≡ empties → Kept h c (emptied t) (plainAnswer 0)
   empty-said c q = (

@@ -9,8 +9,14 @@ pub mod Line
 pub mod LineSteps
 pub mod Reaching
 pub mod Reporting
+pub mod Counting
+pub mod Fates
+pub mod Tallied
 pub mod Refusing
+pub mod Sharing
 pub mod Refuted
+pub mod TallyRefuted
+pub mod LanesRefuted
 pub mod RefusalsRefuted
 pub mod ReportsRefuted
 pub mod EmptyRefuted

@@ -3,7 +3,7 @@ use Prim.Native.Nat.{ℕ, zero, suc, _<_, _≤_}
 use native.Mathlib.Omega.{arith}
 use mathlib.Core.Path.{_≡_, refl, sym, _∙_, ap, subst}
 use mathlib.Core.Option.{Option, some}
-use mathlib.Core.List.{List, _∷_}
+use mathlib.Core.List.{List, _∷_, map}
 use mathlib.Core.Bool.{Bool, true, false, not, _&&_, _||_, true≢false, false≢true, or-true, and-eq-true-iff}
 use borrow.Author.Tests.{eq-eqb, ne-eqb, eqb-true, eqb-false, not-true}
 use lib.ListN.{length, set, replicate}
@@ -11,6 +11,8 @@ use lib.Dec.{eqb}
 use Rattle.payload.specs.Payload.{content, payloadOf}
 use Rattle.payload.proofs.Laws.{content-of}
 use Rattle.port.specs.Status.{bit}
+use Rattle.buffer.specs.declared.Lane.{Lane}
+use Rattle.buffer.specs.declared.Lane.the-variants.{Zero}
 use Rattle.buffer.specs.declared.Key.{Key}
 use Rattle.buffer.specs.declared.StartSplit.{StartSplit}
 use Rattle.buffer.specs.declared.Pid.the-variants as pid
@@ -20,26 +22,28 @@ use Rattle.buffer.specs.declared.Slot.the-variants.{Empty, Pending, Ready, Old}
 use Rattle.buffer.specs.declared.Buffer.{Buffer}
 use Rattle.buffer.specs.Key as key
 use Rattle.buffer.specs.Key.{sameKey}
-use Rattle.buffer.specs.Buffer.{vacant, isPending, isFree, holds}
+use Rattle.buffer.specs.Buffer.{vacant, isPending, isFree, holds, inLane}
 use Rattle.buffer.proofs.Keys.{same-true, same-refl}
 use Rattle.translator.specs.declared.LowSide.{LowSide}
 use Rattle.translator.specs.Translator.{at}
 use Rattle.translator.specs.Order.{atPlace, waiting, before, reranked, rankedIn, ranked}
-use Rattle.translator.specs.Answers.{pidNumber}
+use Rattle.translator.specs.Answers.{laneNumber, pidNumber}
+use Rattle.translator.specs.ResetLane.{withoutLane}
 use Rattle.translator.specs.Valid.{Apart}
 use Rattle.translator.proofs.At.{at-same, at-other, at-cases, at-ranked, pending-reranked}
 use Rattle.translator.proofs.Ranks.{rank-lt, rank-below}
+use Rattle.numbers.proofs.Laws.{numbers-claims}
 use Rattle.numbers.specs.Written.{typeNumber}
 use Rattle.hub.specs.Call.{Call, Start}
-use Rattle.runs.specs.History.{Event, History, starts, asks, isDone, isOpen, stores, lastStored}
-use Rattle.runs.specs.Order.{pendingAfter, isPendingAt, callAt}
-use Rattle.runs.proofs.Histories.{Below, stored-below, not-new, some-inj, one-key, keeps-start, start-stores}
-use Rattle.runs.proofs.Invariant.{Inv, idle-closed}
+use Rattle.runs.specs.History.{Event, History, starts, resets, asks, isDone, isOpen, stores, lastStored}
+use Rattle.runs.specs.Order.{pendingAfter, isPendingAt, callAt, isFrom}
+use Rattle.runs.proofs.Histories.{Below, stored-below, not-new, some-inj, one-key, keeps-start, start-stores, reset-stores}
+use Rattle.runs.proofs.Invariant.{Inv, idle-closed, lane-of, Spared, spared, left-alone}
 
 -- ---- what a pending slot holds
 
 abbrev pub noSplit : StartSplit
-noSplit = record { pid = pid.Out; transfer = Control; lowspeed = false; toggle = false; address = record { 0 = 0 }; endpoint = 0 }
+noSplit = record { lane = Zero; pid = pid.Out; transfer = Control; lowspeed = false; toggle = false; address = record { 0 = 0 }; endpoint = 0 }
 
 abbrev pub splitIn : Slot → StartSplit
 splitIn Empty = noSplit
@@ -91,7 +95,7 @@ place-reranked bs (Old s r) e = absurd (false≢true e)
 
 -- the start-split with these numbers
 abbrev pub callOf : StartSplit → List ℕ → Call
-callOf s l = Start (pidNumber (s .pid)) (typeNumber (s .transfer)) (bit (s .lowspeed)) (bit (s .toggle)) (s .address .0) (s .endpoint) l
+callOf s l = Start (laneNumber (s .lane)) (pidNumber (s .pid)) (typeNumber (s .transfer)) (bit (s .lowspeed)) (bit (s .toggle)) (s .address .0) (s .endpoint) l
 
 pub ranked-below : (bs : List Buffer) (i : ℕ) → Waits (ranked bs) i → placeIn (at (ranked bs) i .slot) < waiting bs
 ranked-below bs i w =
@@ -350,3 +354,64 @@ line-empty h idle-all =
     idle (suc (suc zero)) = refl
     idle (suc (suc (suc zero))) = refl
     idle (suc (suc (suc (suc i)))) = refl
+
+-- ---- a lane's buffers are emptied
+
+module _ (h : History) (e : Event) (bs : List Buffer) (line : Line h bs) (z : Lane) (q : asks (e .call) ≡ resets z) (d : isDone (e .answer) ≡ true) where
+  same-stored : (l : Key) → lastStored (e ∷ h) l ≡ lastStored h l
+  same-stored = reset-stores h e z q d
+
+  -- whether the start-split of a pending buffer is the lane's
+  from-lane : (i : ℕ) → Waits bs i → (s : Stands h (at bs i)) → isFrom z (callAt h (s .place)) ≡ inLane z (at bs i .slot)
+  from-lane i w s =
+      ap (isFrom z) (s .asked) ∙ ap (λ (y : Lane). key.sameLane y z) (numbers-claims .lanes .value-back (splitIn (at bs i .slot) .lane))
+      ∙ sym (lane-of z (keyIn (at bs i .slot)) (at bs i .slot) (waits-holds (at bs i .slot) w))
+
+  after : (s : ℕ) → isPendingAt (e ∷ h) s ≡ (not (isFrom z (callAt h s)) && isPendingAt h s)
+  unfolding isPendingAt pendingAfter
+  after s = rw (q, d)
+
+  pub line-reset : Line (e ∷ h) (map (withoutLane z) bs)
+  line-reset =
+      record {
+        stands = λ i w. let x = left i w in subst (Stands (e ∷ h)) (sym (x .same)) (stood i (x .passes) (x .other));
+        known = λ s p.
+            let x = and-eq-true-iff (not (isFrom z (callAt h s))) (isPendingAt h s) .0 (sym (after s) ∙ p) in
+            knew s (not-true (isFrom z (callAt h s)) (x .0)) (line .known s (x .1));
+        order = λ i j s r w v f g.
+            let x = left i w in
+            let y = left j v in
+            let o : s < r → placeIn (at bs i .slot) < placeIn (at bs j .slot) =
+            line .order i j s r (x .passes) (y .passes) (sym (same-stored (keyIn (at bs i .slot))) ∙ (ap (λ (b : Buffer). lastStored (e ∷ h) (keyIn (b .slot))) (sym (x .same)) ∙ f))
+            (sym (same-stored (keyIn (at bs j .slot))) ∙ (ap (λ (b : Buffer). lastStored (e ∷ h) (keyIn (b .slot))) (sym (y .same)) ∙ g)) in
+            λ lt.
+            let a : placeIn (at (map (withoutLane z) bs) i .slot) ≡ placeIn (at bs i .slot) = ap (λ (b : Buffer). placeIn (b .slot)) (x .same) in
+            let b : placeIn (at (map (withoutLane z) bs) j .slot) ≡ placeIn (at bs j .slot) = ap (λ (b : Buffer). placeIn (b .slot)) (y .same) in
+            omega (arith, o lt, a, b);
+      }
+    where
+      left : (i : ℕ) → Waits (map (withoutLane z) bs) i → Spared z isPending bs i
+      left i w = spared z isPending refl bs i w
+
+      stood : (i : ℕ) → Waits bs i → inLane z (at bs i .slot) ≡ false → Stands (e ∷ h) (at bs i)
+      stood i w n =
+          let s : Stands h (at bs i) = line .stands i w in
+          record {
+            place = s .place;
+            placed = same-stored (keyIn (at bs i .slot)) ∙ s .placed;
+            pending = after (s .place) ∙ rw (from-lane i w s, n, s .pending);
+            asked = call-kept h e (keyIn (at bs i .slot)) (s .place) _ (s .placed) (s .asked);
+          }
+
+      knew : (s : ℕ) → isFrom z (callAt h s) ≡ false → Known h bs s → Known (e ∷ h) (map (withoutLane z) bs) s
+      knew s n k =
+          let x : Stands h (at bs (k .spot)) = line .stands (k .spot) (k .waits) in
+          let here : x .place ≡ s = some-inj (sym (x .placed) ∙ k .placed) in
+          let other : inLane z (at bs (k .spot) .slot) ≡ false =
+          sym (from-lane (k .spot) (k .waits) x) ∙ (ap (λ (m : ℕ). isFrom z (callAt h m)) here ∙ n) in
+          let kept : at (map (withoutLane z) bs) (k .spot) ≡ at bs (k .spot) = left-alone z bs (k .spot) other in
+          record {
+            spot = k .spot;
+            waits = ap (λ (b : Buffer). isPending (b .slot)) kept ∙ k .waits;
+            placed = same-stored (keyIn (at (map (withoutLane z) bs) (k .spot) .slot)) ∙ (ap (λ (b : Buffer). lastStored h (keyIn (b .slot))) kept ∙ k .placed);
+          }

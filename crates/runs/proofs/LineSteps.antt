@@ -13,6 +13,7 @@ use Rattle.payload.specs.Payload.{content, payloadOf}
 use Rattle.ports.specs.declared.Sweep.the-variants.{Tick as Tick′}
 use Rattle.ports.specs.Sweep.{swept}
 use Rattle.ports.specs.Bitmap.{bitmapOf}
+use Rattle.buffer.specs.declared.Lane.{Lane}
 use Rattle.buffer.specs.declared.Key.{Key}
 use Rattle.buffer.specs.declared.StartSplit.{StartSplit}
 use Rattle.buffer.specs.declared.DeviceResult.{DeviceResult}
@@ -31,7 +32,7 @@ use Rattle.translator.specs.declared.LowSide.the-variants.{Idle, Running, Aband
 use Rattle.translator.specs.declared.Found.{Found}
 use Rattle.translator.specs.declared.Found.the-variants.{Nowhere, At}
 use Rattle.translator.specs.declared.Choice.{Choice}
-use Rattle.translator.specs.declared.Choice.the-variants.{NoRoom, Held, Reused, Took}
+use Rattle.translator.specs.declared.Choice.the-variants.{NoRoom, LimitReached, Held, Reused, Took}
 use Rattle.translator.specs.declared.StartAnswer.the-variants as start
 use Rattle.translator.specs.declared.DeliverAnswer.the-variants as deliver
 use Rattle.translator.specs.declared.Started.{Started}
@@ -39,7 +40,9 @@ use Rattle.translator.specs.declared.Delivered.{Delivered}
 use Rattle.translator.specs.declared.LaunchAnswer.{LaunchAnswer}
 use Rattle.translator.specs.declared.LaunchAnswer.the-variants.{NothingPending, Occupied, Launches}
 use Rattle.translator.specs.Translator.{at, emptied}
-use Rattle.translator.specs.Search.{find, chosen}
+use Rattle.translator.specs.Search.{find}
+use Rattle.translator.specs.Limit.{permitted}
+use Rattle.translator.specs.ResetLane.{resetLane}
 use Rattle.translator.specs.Order.{waiting, ranked}
 use Rattle.translator.specs.StartSplit.{stored, startBy, startSplit}
 use Rattle.translator.specs.CompleteSplit.{completed, completeAt, completeSplit}
@@ -48,10 +51,10 @@ use Rattle.translator.specs.Deliver as delivering
 use Rattle.translator.specs.Clear.{clearAt, clearBuffer}
 use Rattle.translator.specs.Answers.{isRefusal, startNumber, launchNumber, deliverNumber}
 use Rattle.translator.proofs.At.{inside, length-ranked}
-use Rattle.translator.proofs.Finding.{FindSays, find-says, ChosenSays, chosen-says}
+use Rattle.translator.proofs.Finding.{FindSays, find-says, PermittedSays, permitted-says}
 use Rattle.translator.proofs.Kept.{in-use, start-le}
 use Rattle.translator.proofs.Calls.{LaunchedAs, launched-as, refused-same}
-use Rattle.numbers.specs.Named.{isResult, resultFrom}
+use Rattle.numbers.specs.Named.{laneFrom, isResult, resultFrom}
 use Rattle.numbers.specs.Split.{splitNamed, splitFrom, keyFrom}
 use Rattle.numbers.specs.Claims.{SplitHas}
 use Rattle.numbers.proofs.Laws.{numbers-claims}
@@ -61,19 +64,19 @@ use Rattle.request.specs.Request.{requestOf}
 use Rattle.hub.specs.declared.Hub.{Hub}
 use Rattle.hub.specs.Hub.{withPorts, withTranslator, configuredAs, resetHub, tickedHub}
 use Rattle.hub.specs.Call.{Call, Control, Poll, Start, Complete, Launch, Deliver, Event as Line′, Tick, BusReset, Answer, Outcome, plainAnswer, done, refuse, gives}
-use Rattle.hub.specs.Requests.{byRequest, servedAlways, requested}
+use Rattle.hub.specs.Requests.{keyed, byRequest, servedAlways, requested}
 use Rattle.hub.specs.Rules.{polled, completedBy, launchAnswer, launchedBy}
 use Rattle.hub.specs.Step.{within, served, step}
 use Rattle.hub.proofs.Order.{by-checks}
 use Rattle.hub.proofs.Valid.{completed-next, launched-next}
-use Rattle.runs.specs.History.{Event, History, Asks, nothing, starts, completes, launches, delivers, clears, empties, asks, isOpen, stores, lastStored, For, lastFor, isAt, isFor}
+use Rattle.runs.specs.History.{Event, History, Asks, nothing, starts, completes, launches, delivers, clears, resets, empties, asks, isOpen, stores, lastStored, For, lastFor, isAt, isFor}
 use Rattle.runs.specs.Order.{pendingAfter, isPendingAt, Ordered, AllOrdered, LaunchOrder}
 use Rattle.runs.specs.Machine.{newHubOf, rules, runFrom}
 use Rattle.runs.proofs.Histories.{one-key, Refused, silent-refused, silent-nothing, complete-stores, keeps-repeat, keeps-launch, keeps-deliver}
 use Rattle.runs.proofs.Invariant.{Good, LowOk, RunsFor, held-ranked, free-ranked, inv-ranked}
 use Rattle.runs.proofs.Kept.{ev, Tied}
 use Rattle.runs.proofs.Steps.{start-key, complete-key, AsksFor, request-asks, step-kept}
-use Rattle.runs.proofs.Line.{splitIn, placeIn, keyIn, Waits, waits-holds, waits-placed, callOf, Stands, Known, Line, line-ranked, line-quiet, line-left, line-gone, line-into, line-empty, ranked-below}
+use Rattle.runs.proofs.Line.{splitIn, placeIn, keyIn, Waits, waits-holds, waits-placed, callOf, Stands, Known, Line, line-ranked, line-quiet, line-left, line-gone, line-into, line-empty, line-reset, ranked-below}
 use Rattle.runs.proofs.Theorems.{new-tied}
 
 -- what a call leaves is in line with the history, and a launch is in order
@@ -87,6 +90,7 @@ ordered-else h (completes k) a f g = tt
 ordered-else h launches a f g = (λ q. absurd (eqb-false (a .number) 1 f q), λ q. absurd (eqb-false (a .number) 3 g q))
 ordered-else h (delivers r l) a f g = tt
 ordered-else h (clears k) a f g = tt
+ordered-else h (resets z) a f g = tt
 ordered-else h empties a f g = tt
 
 pending-refused : (x : Asks) (a : Answer) (h : History) (s : ℕ) (w : Bool) → eqb (a .number) 0 ≡ false → pendingAfter x a h s w ≡ w
@@ -97,6 +101,7 @@ pending-refused (completes k) a h s w e = refl
 pending-refused launches a h s w e = refl
 pending-refused (delivers r l) a h s w e = rw e
 pending-refused (clears k) a h s w e = rw e
+pending-refused (resets z) a h s w e = rw e
 pending-refused empties a h s w e = rw e
 
 module _ (h : History) (t : Translator) (tied : Tied h t) (line : Line h (t .buffers)) where
@@ -128,9 +133,10 @@ module _ (h : History) (t : Translator) (tied : Tied h t) (line : Line h (t .buf
       (λ j hd. only j (sym (held-ranked (t .buffers) (key.keyOf s) j) ∙ hd)) (ranked-below (t .buffers))
 
   start-by : (c : Call) (s : StartSplit) (l : List ℕ) → asks c ≡ starts (key.keyOf s) → c ≡ callOf s l → length l ≤ 64
-      → (x : Choice) → ChosenSays (key.keyOf s) (t .count) (t .buffers) x → Line (ev c (plainAnswer (startNumber (startBy t s l x .answer))) ∷ h) (startBy t s l x .next .buffers)
+      → (x : Choice) → PermittedSays (t .count) (key.keyOf s) (t .count) (t .buffers) x → Line (ev c (plainAnswer (startNumber (startBy t s l x .answer))) ∷ h) (startBy t s l x .next .buffers)
   unfolding stored isPendingAt pendingAfter stores
   start-by c s l q says short NoRoom r = refused-line c (plainAnswer 3) (record { not-0 = refl; not-1 = refl; not-9 = refl })
+  start-by c s l q says short LimitReached r = refused-line c (plainAnswer 3) (record { not-0 = refl; not-1 = refl; not-9 = refl })
   start-by c s l q says short (Held n) r =
       line-quiet h (ev c (plainAnswer 0)) (t .buffers) line (λ k. keeps-repeat h (ev c (plainAnswer 0)) (key.keyOf s) q refl opened .stored-kept k tt)
       (λ x. rw (q, opened, and-false (sameKey (key.keyOf s) (key.keyOf s))))
@@ -138,22 +144,22 @@ module _ (h : History) (t : Translator) (tied : Tied h t) (line : Line h (t .buf
       opened : isOpen h (key.keyOf s) ≡ true
       opened = tied .inv .good (n .0) (key.keyOf s) (r .found .passes) .opened ∙ r .active
   start-by c s l q says short (Reused n) r =
-      store-line c s l n q says short (r .found .inside) (active-free (at (t .buffers) (n .0) .slot) (r .active)) (λ j hd. tied .valid .keys (key.keyOf s) j (n .0) hd (r .found .passes))
+      store-line c s l n q says short (r .says .found .inside) (active-free (at (t .buffers) (n .0) .slot) (r .says .active)) (λ j hd. tied .valid .keys (key.keyOf s) j (n .0) hd (r .says .found .passes))
   start-by c s l q says short (Took n) r =
-      store-line c s l n q says short (r .free .inside) (r .free .passes)
-      (λ j hd. absurd (true≢false (sym hd ∙ r .none j (in-use t (tied .valid) (holds (key.keyOf s)) refl j hd) (inside (holds (key.keyOf s)) refl (t .buffers) j hd))))
+      store-line c s l n q says short (r .says .free .inside) (r .says .free .passes)
+      (λ j hd. absurd (true≢false (sym hd ∙ r .says .none j (in-use t (tied .valid) (holds (key.keyOf s)) refl j hd) (inside (holds (key.keyOf s)) refl (t .buffers) j hd))))
 
   start-line : (c : Call) (s : StartSplit) (l : List ℕ) → asks c ≡ starts (key.keyOf s) → c ≡ callOf s l → startFits s (length l) ≡ true
       → InLine h c (startSplit t s l .next .buffers) (plainAnswer (startNumber (startSplit t s l .answer)))
   unfolding startSplit
   start-line c s l q says f = (
     subst (λ (x : Bool). Line (ev c (plainAnswer (startNumber (cond x by-choice outside .answer))) ∷ h) (cond x by-choice outside .next .buffers)) (sym f)
-        (start-by c s l q says (start-le s (length l) f) (chosen (key.keyOf s) (take (t .count) (t .buffers))) (chosen-says (key.keyOf s) (t .count) (t .buffers))),
+        (start-by c s l q says (start-le s (length l) f) (permitted (t .count) (key.keyOf s) (take (t .count) (t .buffers))) (permitted-says (t .count) (key.keyOf s) (t .count) (t .buffers))),
     subst (λ (x : Asks). Ordered x (plainAnswer (startNumber (startSplit t s l .answer))) h) (sym q) tt,
   )
     where
       by-choice : Started
-      by-choice = startBy t s l (chosen (key.keyOf s) (take (t .count) (t .buffers)))
+      by-choice = startBy t s l (permitted (t .count) (key.keyOf s) (take (t .count) (t .buffers)))
 
       outside : Started
       outside = record { next = t; answer = start.Outside }
@@ -346,6 +352,10 @@ module _ (h : History) (t : Translator) (tied : Tied h t) (line : Line h (t .buf
                   ap (λ (x : Key). holds x (at (t .buffers) (p .spot) .slot)) (sym (one-key h (keyIn (at (t .buffers) (p .spot) .slot)) k s (p .placed) (v ∙ ap some w)))
                   ∙ waits-holds (at (t .buffers) (p .spot) .slot) (p .waits)
 
+  reset-line : (c : Call) (z : Lane) → asks c ≡ resets z → InLine h c (resetLane t z .buffers) (plainAnswer 0)
+  unfolding resetLane
+  reset-line c z q = (line-reset h (ev c (plainAnswer 0)) (t .buffers) line z q refl, subst (λ (x : Asks). Ordered x (plainAnswer 0) h) (sym q) tt)
+
   empty-line : (c : Call) → asks c ≡ empties → InLine h c (emptied t .buffers) (plainAnswer 0)
   unfolding isPendingAt pendingAfter
   empty-line c q = (line-empty (ev c (plainAnswer 0) ∷ h) (λ s. rw q), subst (λ (x : Asks). Ordered x (plainAnswer 0) h) (sym q) tt)
@@ -353,10 +363,10 @@ module _ (h : History) (t : Translator) (tied : Tied h t) (line : Line h (t .buf
 -- ---- one call
 
 -- the numbers of a start-split that is within the rules name it
-split-call : (p t f g a e : ℕ) (l : List ℕ) → splitNamed p t f g a e ≡ true → Start p t f g a e l ≡ callOf (splitFrom p t f g a e) l
-split-call p t f g a e l named =
-    let s : SplitHas (splitFrom p t f g a e) p t f g a e = numbers-claims .split-back p t f g a e named in
-    rw (s .pid-number, s .type-number, s .low-speed-flag, s .toggle-flag, s .address-number, s .endpoint-number)
+split-call : (z p t f g a e : ℕ) (l : List ℕ) → splitNamed z p t f g a e ≡ true → Start z p t f g a e l ≡ callOf (splitFrom z p t f g a e) l
+split-call z p t f g a e l named =
+    let s : SplitHas (splitFrom z p t f g a e) z p t f g a e = numbers-claims .split-back z p t f g a e named in
+    rw (s .lane-number, s .pid-number, s .type-number, s .low-speed-flag, s .toggle-flag, s .address-number, s .endpoint-number)
 
 module _ (h : History) (hub : Hub) (tied : Tied h (hub .translator)) (line : Line h (hub .translator .buffers)) where
   abbrev LineBy : Call → Outcome → Type 0
@@ -368,38 +378,38 @@ module _ (h : History) (hub : Hub) (tied : Tied h (hub .translator)) (line : Lin
   none-of : (n : ℕ) → eqb n 0 ≡ false → eqb n 1 ≡ false → eqb n 9 ≡ false → Refused (plainAnswer n)
   none-of n a b c = record { not-0 = a; not-1 = b; not-9 = c }
 
-  by-request : (c : Call) (r : Request) → AsksFor r (asks c) → LineBy c (byRequest hub r)
+  by-request : (c : Call) (y : Lane) (r : Request) → AsksFor y r (asks c) → LineBy c (byRequest hub y r)
   unfolding configuredAs
-  by-request c (Wrong f) q = refusal c 2 (none-of 2 refl refl refl) refl
-  by-request c (SetConfiguration on) q = empty-line h (hub .translator) tied line c q
-  by-request c GetConfiguration q = nothing-line h (hub .translator) tied line c _ q
-  by-request c (GetHubDescriptor n) q = nothing-line h (hub .translator) tied line c _ q
-  by-request c GetHubStatus q = nothing-line h (hub .translator) tied line c _ q
-  by-request c (GetPortStatus n) q = nothing-line h (hub .translator) tied line c _ q
-  by-request c ClearHubFeature q = nothing-line h (hub .translator) tied line c _ q
-  by-request c (ClearPortFeature n f) q = nothing-line h (hub .translator) tied line c _ q
-  by-request c (SetPortFeature n f) q = nothing-line h (hub .translator) tied line c _ q
-  by-request c (ClearTTBuffer k) q = clear-line h (hub .translator) tied line c k q
-  by-request c ResetTT q = empty-line h (hub .translator) tied line c q
+  by-request c y (Wrong f) q = refusal c 2 (none-of 2 refl refl refl) refl
+  by-request c y (SetConfiguration on) q = empty-line h (hub .translator) tied line c q
+  by-request c y GetConfiguration q = nothing-line h (hub .translator) tied line c _ q
+  by-request c y (GetHubDescriptor n) q = nothing-line h (hub .translator) tied line c _ q
+  by-request c y GetHubStatus q = nothing-line h (hub .translator) tied line c _ q
+  by-request c y (GetPortStatus n) q = nothing-line h (hub .translator) tied line c _ q
+  by-request c y ClearHubFeature q = nothing-line h (hub .translator) tied line c _ q
+  by-request c y (ClearPortFeature n f) q = nothing-line h (hub .translator) tied line c _ q
+  by-request c y (SetPortFeature n f) q = nothing-line h (hub .translator) tied line c _ q
+  by-request c y (ClearTTBuffer k) q = clear-line h (hub .translator) tied line c (keyed y k) q
+  by-request c y ResetTT q = reset-line h (hub .translator) tied line c y q
 
-  control : (s : List ℕ) (room : ℕ) → LineBy (Control s room) (requested hub (requestOf (hub .identity .ports) s))
+  control : (z : ℕ) (s : List ℕ) (room : ℕ) → LineBy (Control z s room) (requested hub (laneFrom z) (requestOf (hub .identity .ports) s))
   unfolding requested
-  control s room = go (hub .configured || servedAlways r)
+  control z s room = go (hub .configured || servedAlways r)
     where
       r : Request
       r = requestOf (hub .identity .ports) s
 
-      go : (x : Bool) → LineBy (Control s room) (cond x (byRequest hub r) (refuse 2 hub))
-      go true = by-request (Control s room) r (request-asks (hub .identity .ports) s room)
-      go false = refusal (Control s room) 2 (none-of 2 refl refl refl) refl
+      go : (x : Bool) → LineBy (Control z s room) (cond x (byRequest hub (laneFrom z) r) (refuse 2 hub))
+      go true = by-request (Control z s room) (laneFrom z) r (request-asks (hub .identity .ports) z s room)
+      go false = refusal (Control z s room) 2 (none-of 2 refl refl refl) refl
 
-  poll : (room : ℕ) → LineBy (Poll room) (polled hub)
+  poll : (z room : ℕ) → LineBy (Poll z room) (polled hub)
   unfolding polled asks
-  poll room = go (eqb (bitmapOf (hub .identity .ports) (hub .ports)) 0)
+  poll z room = go (eqb (bitmapOf (hub .identity .ports) (hub .ports)) 0)
     where
-      go : (x : Bool) → LineBy (Poll room) (cond x (refuse 3 hub) (gives hub (bitmapOf (hub .identity .ports) (hub .ports) ∷ [])))
-      go true = nothing-line h (hub .translator) tied line (Poll room) _ refl
-      go false = nothing-line h (hub .translator) tied line (Poll room) _ refl
+      go : (x : Bool) → LineBy (Poll z room) (cond x (refuse 3 hub) (gives hub (bitmapOf (hub .identity .ports) (hub .ports) ∷ [])))
+      go true = nothing-line h (hub .translator) tied line (Poll z room) _ refl
+      go false = nothing-line h (hub .translator) tied line (Poll z room) _ refl
 
   tick : LineBy Tick (done (tickedHub hub))
   unfolding tickedHub asks
@@ -411,16 +421,16 @@ module _ (h : History) (hub : Hub) (tied : Tied h (hub .translator)) (line : Lin
 
   serve : (c : Call) → within hub c ≡ true → LineBy c (served hub c)
   unfolding served within asks resetHub
-  serve (Control s room) w = control s room
-  serve (Poll room) w = poll room
-  serve (Start p t f g a e l) w =
-      let x = and-eq-true-iff (splitNamed p t f g a e) (startFits (splitFrom p t f g a e) (length l)) .0 w in
-      start-line h (hub .translator) tied line (Start p t f g a e l) (splitFrom p t f g a e) l (ap starts (start-key p t f g a e (x .0))) (split-call p t f g a e l (x .0)) (x .1)
-  serve (Complete a e d room) w =
-      let o = completeSplit (hub .translator) (keyFrom a e d) in
+  serve (Control z s room) w = control z s room
+  serve (Poll z room) w = poll z room
+  serve (Start z p t f g a e l) w =
+      let x = and-eq-true-iff (splitNamed z p t f g a e) (startFits (splitFrom z p t f g a e) (length l)) .0 w in
+      start-line h (hub .translator) tied line (Start z p t f g a e l) (splitFrom z p t f g a e) l (ap starts (start-key z p t f g a e (x .0))) (split-call z p t f g a e l (x .0)) (x .1)
+  serve (Complete z a e d room) w =
+      let o = completeSplit (hub .translator) (keyFrom z a e d) in
       let next = withTranslator hub (o .next) in
-      subst (λ (u : Hub). InLine h (Complete a e d room) (u .translator .buffers) (completedBy next (o .answer) (o .payload) .answer)) (sym (completed-next next (o .answer) (o .payload)))
-      (complete-line h (hub .translator) tied line (Complete a e d room) (completedBy next (o .answer) (o .payload) .answer) (keyFrom a e d) (ap completes (complete-key a e d w)))
+      subst (λ (u : Hub). InLine h (Complete z a e d room) (u .translator .buffers) (completedBy next (o .answer) (o .payload) .answer)) (sym (completed-next next (o .answer) (o .payload)))
+      (complete-line h (hub .translator) tied line (Complete z a e d room) (completedBy next (o .answer) (o .payload) .answer) (keyFrom z a e d) (ap completes (complete-key z a e d w)))
   serve (Launch room) w =
       let o = launch (hub .translator) in
       let next = withTranslator hub (o .next) in

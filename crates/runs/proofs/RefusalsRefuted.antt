@@ -35,7 +35,7 @@ getDescriptor = 0xA0 ∷ 0x06 ∷ 0x00 ∷ 0x29 ∷ 0x00 ∷ 0x00 ∷ 0x09 ∷ 0
 -- a poll without reply space: 7 comes first
 hasty : ¬ (Refusals hastyStep)
 unfolding hastyStep within roomy heard
-hasty claim = claim .exactly silent bench (Poll 0) bench-valid .0 refl .none-before short (omega arith) refl
+hasty claim = claim .exactly silent bench (Poll 0 0) bench-valid .0 refl .none-before short (omega arith) refl
 
 -- a tick is never refused
 closed : ¬ (Refusals closedStep)
@@ -45,7 +45,7 @@ closed claim = claim .exactly nak bench Tick bench-valid .0 refl .applies
 -- SetConfiguration 2 leaves the hub unconfigured
 leaky : ¬ (Refusals leakyStep)
 unfolding leakyStep step within roomy heard fitting served requested requestOf checked kindOf configuredAs
-leaky claim = true≢false (ap (λ (h : Hub). h .configured) (claim .unchanged stall bench (Control wrongValue 64) bench-valid refl .0))
+leaky claim = true≢false (ap (λ (h : Hub). h .configured) (claim .unchanged stall bench (Control 0 wrongValue 64) bench-valid refl .0))
 
 -- an attach at port 1
 mute : ¬ (Refusals muteStep)
@@ -55,7 +55,7 @@ mute claim = claim .exactly silent bench (Event 0 1) bench-valid .0 refl .applie
 -- the descriptor is given unconfigured
 dry : ¬ (Refusals dryStep)
 unfolding dryStep step within roomy heard fitting served requested requestOf checked kindOf
-dry claim = claim .exactly nak bench (Control getDescriptor 64) bench-valid .0 refl .applies
+dry claim = claim .exactly nak bench (Control 0 getDescriptor 64) bench-valid .0 refl .applies
 
 pub refusal-mistakes-shut-out : RefusalMistakesShutOut
 refusal-mistakes-shut-out = record { hasty = hasty; closed = closed; leaky = leaky; mute = mute; dry = dry }

@@ -1,5 +1,5 @@
 -- Every call is refused for what is due, or served. Assumes nothing.
-use Prim.Native.Nat.{ℕ, suc, _<_, _≤_}
+use Prim.Native.Nat.{ℕ, suc, _+_, _<_, _≤_}
 use native.Mathlib.Omega.{arith}
 use mathlib.Core.Path.{_≡_, refl, sym, _∙_, ap, subst}
 use mathlib.Core.Logic.{_↔_, _⊎_, inl, inr, ⊎-elim}
@@ -13,6 +13,7 @@ use Rattle.port.proofs.Claimed.{port-claims}
 use Rattle.ports.specs.Ports.{portAt}
 use Rattle.ports.specs.Bitmap.{bitmapOf}
 use Rattle.ports.proofs.Laws.{ports-claims}
+use Rattle.buffer.specs.declared.Lane.{Lane}
 use Rattle.buffer.specs.declared.Key.{Key}
 use Rattle.buffer.specs.declared.StartSplit.{StartSplit}
 use Rattle.buffer.specs.declared.DeviceResult.{DeviceResult}
@@ -29,7 +30,7 @@ use Rattle.translator.specs.declared.LowSide.the-variants.{Idle, Running, Aband
 use Rattle.translator.specs.declared.Found.{Found}
 use Rattle.translator.specs.declared.Found.the-variants.{Nowhere, At}
 use Rattle.translator.specs.declared.Choice.{Choice}
-use Rattle.translator.specs.declared.Choice.the-variants.{NoRoom, Held, Reused, Took}
+use Rattle.translator.specs.declared.Choice.the-variants.{NoRoom, LimitReached, Held, Reused, Took}
 use Rattle.translator.specs.declared.Earliest.{Earliest}
 use Rattle.translator.specs.declared.Earliest.the-variants.{NonePending, Stored}
 use Rattle.translator.specs.declared.LaunchAnswer.{LaunchAnswer}
@@ -38,17 +39,18 @@ use Rattle.translator.specs.declared.DeliverAnswer.the-variants.{NotInThisState
 use Rattle.translator.specs.declared.Launched.{Launched}
 use Rattle.translator.specs.declared.Delivered.{Delivered}
 use Rattle.translator.specs.Translator.{at}
-use Rattle.translator.specs.Search.{find, chosen}
+use Rattle.translator.specs.Search.{find}
+use Rattle.translator.specs.Limit.{heldBy, permitted, AtLimit}
 use Rattle.translator.specs.Order.{earliest}
 use Rattle.translator.specs.StartSplit.{startBy, startSplit}
 use Rattle.translator.specs.CompleteSplit.{completed, completeAt, completeSplit}
 use Rattle.translator.specs.Launch.{launched, launchAt, launchBy, launch}
 use Rattle.translator.specs.Deliver.{delivered, deliverBy, deliver, undelivered}
 use Rattle.translator.specs.Answers.{isRefusal, launchNumber, deliverNumber, resultNumber}
-use Rattle.translator.proofs.Finding.{Hit, Miss, FindSays, find-says, ChosenSays, chosen-says}
-use Rattle.translator.proofs.Kept.{in-use}
+use Rattle.translator.proofs.Finding.{Hit, Miss, FindSays, find-says, PermittedSays, permitted-says}
+use Rattle.translator.proofs.Kept.{in-use, may-store, may-not-store, no-repeat}
 use Rattle.translator.proofs.Calls.{LaunchedAs, launched-as, refused-same}
-use Rattle.numbers.specs.Named.{isResult, resultFrom, eventFrom}
+use Rattle.numbers.specs.Named.{laneFrom, isResult, resultFrom, eventFrom}
 use Rattle.numbers.specs.Split.{splitNamed, splitFrom, keyFrom}
 use Rattle.request.specs.declared.Request.{Request}
 use Rattle.request.specs.declared.Request.the-variants.{Wrong, SetConfiguration, GetConfiguration, GetHubDescriptor, GetHubStatus, GetPortStatus, ClearHubFeature, ClearPortFeature, SetPortFeature, ClearTTBuffer, ResetTT}
@@ -202,10 +204,10 @@ configured-tells h = go (h .configured) refl
 
 silent-tells : (h : Hub) (c : Call) → Tells (heard h c) (Silent h c)
 unfolding heard
-silent-tells h (Control s room) = never
-silent-tells h (Poll room) = configured-tells h
-silent-tells h (Start p t f g a e l) = configured-tells h
-silent-tells h (Complete a e d room) = configured-tells h
+silent-tells h (Control z s room) = never
+silent-tells h (Poll z room) = configured-tells h
+silent-tells h (Start z p t f g a e l) = configured-tells h
+silent-tells h (Complete z a e d room) = configured-tells h
 silent-tells h (Launch room) = configured-tells h
 silent-tells h (Deliver r l) = configured-tells h
 silent-tells h (Event e n) = never
@@ -281,10 +283,10 @@ result-fits h r l w = and-eq-true-iff (isResult r) (resultLength (resultFrom r) 
 
 misplaced-tells : (h : Hub) (c : Call) → within h c ≡ true → Tells (fitting h c) (Misplaced h c)
 unfolding fitting
-misplaced-tells h (Control s room) w = never
-misplaced-tells h (Poll room) w = never
-misplaced-tells h (Start p t f g a e l) w = never
-misplaced-tells h (Complete a e d room) w = never
+misplaced-tells h (Control z s room) w = never
+misplaced-tells h (Poll z room) w = never
+misplaced-tells h (Start z p t f g a e l) w = never
+misplaced-tells h (Complete z a e d room) w = never
 misplaced-tells h (Launch room) w = launch-tells (h .translator)
 misplaced-tells h (Deliver r l) w = go (deliver-tells h (resultFrom r) l (result-fits h r l w))
   where
@@ -299,40 +301,40 @@ misplaced-tells h BusReset w = never
 -- ---- the call's own rule
 
 -- a request is wrong, or it is served
-request-served : (h : Hub) (q : Request) → IsWrong q ⊎ Serves (byRequest h q .answer .number)
-request-served h (Wrong f) = inl (f, refl)
-request-served h (SetConfiguration on) = inr (inl refl)
-request-served h GetConfiguration = inr (inr (inl refl))
-request-served h (GetHubDescriptor n) = inr (inr (inl refl))
-request-served h GetHubStatus = inr (inr (inl refl))
-request-served h (GetPortStatus n) = inr (inr (inl refl))
-request-served h ClearHubFeature = inr (inl refl)
-request-served h (ClearPortFeature n f) = inr (inl refl)
-request-served h (SetPortFeature n f) = inr (inl refl)
-request-served h (ClearTTBuffer k) = inr (inl refl)
-request-served h ResetTT = inr (inl refl)
+request-served : (h : Hub) (y : Lane) (q : Request) → IsWrong q ⊎ Serves (byRequest h y q .answer .number)
+request-served h y (Wrong f) = inl (f, refl)
+request-served h y (SetConfiguration on) = inr (inl refl)
+request-served h y GetConfiguration = inr (inr (inl refl))
+request-served h y (GetHubDescriptor n) = inr (inr (inl refl))
+request-served h y GetHubStatus = inr (inr (inl refl))
+request-served h y (GetPortStatus n) = inr (inr (inl refl))
+request-served h y ClearHubFeature = inr (inl refl)
+request-served h y (ClearPortFeature n f) = inr (inl refl)
+request-served h y (SetPortFeature n f) = inr (inl refl)
+request-served h y (ClearTTBuffer k) = inr (inl refl)
+request-served h y ResetTT = inr (inl refl)
 
-control-sorted : (h : Hub) (s : List ℕ) (room : ℕ) → Past h (Control s room) 4 → Verdict h (Control s room) (requested h (requestOf (h .identity .ports) s))
+control-sorted : (h : Hub) (z : ℕ) (s : List ℕ) (room : ℕ) → Past h (Control z s room) 4 → Verdict h (Control z s room) (requested h (laneFrom z) (requestOf (h .identity .ports) s))
 unfolding requested
-control-sorted h s room p = go (h .configured) refl (servedAlways q) refl
+control-sorted h z s room p = go (h .configured) refl (servedAlways q) refl
   where
     c : Call
-    c = Control s room
+    c = Control z s room
 
     q : Request
     q = requestOf (h .identity .ports) s
 
     -- a request that is served is not wrong
-    not-wrong : Serves (byRequest h q .answer .number) → ¬ (IsWrong q)
-    not-wrong v w = not-both (byRequest h q .answer .number) stall v (ap (λ (x : Request). byRequest h x .answer .number) (w .1))
+    not-wrong : Serves (byRequest h (laneFrom z) q .answer .number) → ¬ (IsWrong q)
+    not-wrong v w = not-both (byRequest h (laneFrom z) q .answer .number) stall v (ap (λ (x : Request). byRequest h (laneFrom z) x .answer .number) (w .1))
 
-    by : ¬ ((h .configured ≡ false) × (servedAlways q ≡ false)) → IsWrong q ⊎ Serves (byRequest h q .answer .number) → Verdict h c (byRequest h q)
-    by n (inl w) = at-2 h c p (inl w) (ap (byRequest h) (w .1))
+    by : ¬ ((h .configured ≡ false) × (servedAlways q ≡ false)) → IsWrong q ⊎ Serves (byRequest h (laneFrom z) q .answer .number) → Verdict h c (byRequest h (laneFrom z) q)
+    by n (inl w) = at-2 h c p (inl w) (ap (byRequest h (laneFrom z)) (w .1))
     by n (inr v) = at-last h c p (⊎-elim (not-wrong v) n) never never v
 
-    go : (x : Bool) → h .configured ≡ x → (y : Bool) → servedAlways q ≡ y → Verdict h c (cond (x || y) (byRequest h q) (refuse 2 h))
-    go true e y f = by (λ n. true≢false (sym e ∙ n .0)) (request-served h q)
-    go false e true f = by (λ n. true≢false (sym f ∙ n .1)) (request-served h q)
+    go : (x : Bool) → h .configured ≡ x → (y : Bool) → servedAlways q ≡ y → Verdict h c (cond (x || y) (byRequest h (laneFrom z) q) (refuse 2 h))
+    go true e y f = by (λ n. true≢false (sym e ∙ n .0)) (request-served h (laneFrom z) q)
+    go false e true f = by (λ n. true≢false (sym f ∙ n .1)) (request-served h (laneFrom z) q)
     go false e false f = at-2 h c p (inr (e, f)) refl
 
 -- the second of four tests that all hold
@@ -347,17 +349,17 @@ module _ (h : Hub) (valid : ValidHub h) where
   unfolding newFits
   most-ports = leb-true (h .identity .ports) 7 (second (leb 1 (h .identity .ports)) (leb (h .identity .ports) 7) _ _ (valid .numbers))
 
-  poll-sorted : (room : ℕ) → Past h (Poll room) 4 → Verdict h (Poll room) (polled h)
+  poll-sorted : (z room : ℕ) → Past h (Poll z room) 4 → Verdict h (Poll z room) (polled h)
   unfolding polled
-  poll-sorted room p = go (eqb b 0) refl
+  poll-sorted z room p = go (eqb b 0) refl
     where
       b : ℕ
       b = bitmapOf (h .identity .ports) (h .ports)
 
-      go : (x : Bool) → eqb b 0 ≡ x → Verdict h (Poll room) (cond x (refuse 3 h) (gives h (b ∷ [])))
-      go true e = at-3 h (Poll room) p never (ports-claims .bitmap-none (h .identity .ports) (h .ports) most-ports .0 (eqb-true b 0 e)) refl
+      go : (x : Bool) → eqb b 0 ≡ x → Verdict h (Poll z room) (cond x (refuse 3 h) (gives h (b ∷ [])))
+      go true e = at-3 h (Poll z room) p never (ports-claims .bitmap-none (h .identity .ports) (h .ports) most-ports .0 (eqb-true b 0 e)) refl
       go false e =
-          at-last h (Poll room) p never
+          at-last h (Poll z room) p never
           (λ u. eqb-false b 0 e (ports-claims .bitmap-none (h .identity .ports) (h .ports) most-ports .1 u)) never (inr (inl refl))
 
   -- what none of the buffers in use passes
@@ -372,26 +374,41 @@ module _ (h : Hub) (valid : ValidHub h) where
       go true g = sym g ∙ none-in-use f m i (in-use t (valid .translator) f e i g)
       go false g = refl
 
-  start-sorted : (p ty f g a e : ℕ) (l : List ℕ) → within h (Start p ty f g a e l) ≡ true → Past h (Start p ty f g a e l) 4
-      → Verdict h (Start p ty f g a e l) (startedAs h (startSplit (h .translator) (splitFrom p ty f g a e) l))
-  unfolding startSplit within
-  start-sorted p ty f g a e l w past-8 =
-      rw fits (go (chosen (keyOf s) (take (t .count) (t .buffers))) (chosen-says (keyOf s) (t .count) (t .buffers)))
+  start-sorted : (z p ty f g a e : ℕ) (l : List ℕ) → within h (Start z p ty f g a e l) ≡ true → Past h (Start z p ty f g a e l) 4
+      → Verdict h (Start z p ty f g a e l) (startedAs h (startSplit (h .translator) (splitFrom z p ty f g a e) l))
+  unfolding startSplit within splitFrom
+  start-sorted z p ty f g a e l w past-8 =
+      rw fits (go (permitted (t .count) (keyOf s) (take (t .count) (t .buffers))) (permitted-says (t .count) (keyOf s) (t .count) (t .buffers)))
     where
       c : Call
-      c = Start p ty f g a e l
+      c = Start z p ty f g a e l
 
       s : StartSplit
-      s = splitFrom p ty f g a e
+      s = splitFrom z p ty f g a e
 
       fits : startFits s (length l) ≡ true
-      fits = and-eq-true-iff (splitNamed p ty f g a e) (startFits s (length l)) .0 w .1
+      fits = and-eq-true-iff (splitNamed z p ty f g a e) (startFits s (length l)) .0 w .1
 
-      go : (x : Choice) → ChosenSays (keyOf s) (t .count) (t .buffers) x → Verdict h c (startedAs h (startBy t s l x))
-      go NoRoom r = at-3 h c past-8 never (none-in-use (holds (keyOf s)) (r .none), none-in-use isFree (r .free)) refl
-      go (Held n) r = at-last h c past-8 never (λ u. true≢false (sym (r .found .passes) ∙ u .0 (n .0) (r .found .small))) never (inl refl)
-      go (Reused n) r = at-last h c past-8 never (λ u. true≢false (sym (r .found .passes) ∙ u .0 (n .0) (r .found .small))) never (inl refl)
-      go (Took n) r = at-last h c past-8 never (λ u. true≢false (sym (r .free .passes) ∙ u .1 (n .0) (r .free .small))) never (inl refl)
+      below : heldBy (s .lane) (t .buffers) + 1 < t .count → ¬ (AtLimit (laneFrom z) t)
+      below l u = omega (arith, l, u)
+
+      go : (x : Choice) → PermittedSays (t .count) (keyOf s) (t .count) (t .buffers) x → Verdict h c (startedAs h (startBy t s l x))
+      go NoRoom r =
+          at-3 h c past-8 never
+          (no-repeat t (valid .translator) (keyOf s) NoRoom (r .says) refl, inr (none-in-use (holds (keyOf s)) (r .says .none), none-in-use isFree (r .says .free))) refl
+      go LimitReached r = at-3 h c past-8 never (no-repeat t (valid .translator) (keyOf s) (r .wanted) (r .says) (r .unheld), inl (full (may-not-store t (valid .translator) (s .lane) (r .full)))) refl
+        where
+          full : AtLimit (s .lane) t → AtLimit (laneFrom z) t
+          full u = u
+      go (Held n) r =
+          at-last h c past-8 never
+          (λ u. true≢false (sym (r .active) ∙ u .0 (n .0) (r .found .passes))) never (inl refl)
+      go (Reused n) r =
+          at-last h c past-8 never
+          (λ u. ⊎-elim (below (may-store t (valid .translator) (s .lane) (r .may))) (λ w. true≢false (sym (r .says .found .passes) ∙ w .0 (n .0) (r .says .found .small))) (u .1)) never (inl refl)
+      go (Took n) r =
+          at-last h c past-8 never
+          (λ u. ⊎-elim (below (may-store t (valid .translator) (s .lane) (r .may))) (λ w. true≢false (sym (r .says .free .passes) ∙ w .1 (n .0) (r .says .free .small))) (u .1)) never (inl refl)
 
   result-serves : (r : DeviceResult) → Serves (resultNumber r)
   result-serves result.Failure = inr (inr refl)
@@ -402,35 +419,35 @@ module _ (h : Hub) (valid : ValidHub h) where
   result-serves result.Data1 = inr (inl refl)
 
   -- buffer n holds the key of a complete-split
-  module _ (a e d room : ℕ) (p : Past h (Complete a e d room) 4) (n : BufferNumber) (r : Hit (holds (keyFrom a e d)) (t .count) (t .buffers) (n .0)) where
-    matched : ¬ (Stalled h (Complete a e d room))
+  module _ (z a e d room : ℕ) (p : Past h (Complete z a e d room) 4) (n : BufferNumber) (r : Hit (holds (keyFrom z a e d)) (t .count) (t .buffers) (n .0)) where
+    matched : ¬ (Stalled h (Complete z a e d room))
     matched u = true≢false (sym (r .passes) ∙ u (n .0))
 
     -- no other does
-    not-early : isPending (at (t .buffers) (n .0) .slot) ≡ false → ¬ (NotYet h (Complete a e d room))
+    not-early : isPending (at (t .buffers) (n .0) .slot) ≡ false → ¬ (NotYet h (Complete z a e d room))
     not-early np u =
-        let same : u .number ≡ n .0 = valid .translator .keys (keyFrom a e d) (u .number) (n .0) (u .held) (r .passes) in
+        let same : u .number ≡ n .0 = valid .translator .keys (keyFrom z a e d) (u .number) (n .0) (u .held) (r .passes) in
         true≢false (sym (u .pending) ∙ ap (λ (i : ℕ). isPending (at (t .buffers) i .slot)) same ∙ np)
 
     complete-slot : (s : Slot) → at (t .buffers) (n .0) .slot ≡ s
-        → Verdict h (Complete a e d room) (completedAs h (completed t n (at (t .buffers) (n .0) .payload) s))
-    complete-slot Empty f = absurd (false≢true (ap (holds (keyFrom a e d)) (sym f) ∙ r .passes))
+        → Verdict h (Complete z a e d room) (completedAs h (completed t n (at (t .buffers) (n .0) .payload) s))
+    complete-slot Empty f = absurd (false≢true (ap (holds (keyFrom z a e d)) (sym f) ∙ r .passes))
     complete-slot (Pending s q) f =
-        at-4 h (Complete a e d room) p matched never (record { number = n .0; held = r .passes; pending = ap isPending f }) refl
-    complete-slot (Ready s q) f = at-last h (Complete a e d room) p matched never (not-early (ap isPending f)) (result-serves q)
-    complete-slot (Old s q) f = at-last h (Complete a e d room) p matched never (not-early (ap isPending f)) (result-serves q)
+        at-4 h (Complete z a e d room) p matched never (record { number = n .0; held = r .passes; pending = ap isPending f }) refl
+    complete-slot (Ready s q) f = at-last h (Complete z a e d room) p matched never (not-early (ap isPending f)) (result-serves q)
+    complete-slot (Old s q) f = at-last h (Complete z a e d room) p matched never (not-early (ap isPending f)) (result-serves q)
 
-  complete-sorted : (a e d room : ℕ) → Past h (Complete a e d room) 4
-      → Verdict h (Complete a e d room) (completedAs h (completeSplit (h .translator) (keyFrom a e d)))
+  complete-sorted : (z a e d room : ℕ) → Past h (Complete z a e d room) 4
+      → Verdict h (Complete z a e d room) (completedAs h (completeSplit (h .translator) (keyFrom z a e d)))
   unfolding completeSplit
-  complete-sorted a e d room p = go (find (holds k) (take (t .count) (t .buffers))) (find-says (holds k) (t .count) (t .buffers))
+  complete-sorted z a e d room p = go (find (holds k) (take (t .count) (t .buffers))) (find-says (holds k) (t .count) (t .buffers))
     where
       k : Key
-      k = keyFrom a e d
+      k = keyFrom z a e d
 
-      go : (f : Found) → FindSays (holds k) (t .count) (t .buffers) f → Verdict h (Complete a e d room) (completedAs h (completeAt t f))
-      go Nowhere m = at-2 h (Complete a e d room) p (none-at-all (holds k) refl m) refl
-      go (At n) r = complete-slot a e d room p n r (at (t .buffers) (n .0) .slot) refl
+      go : (f : Found) → FindSays (holds k) (t .count) (t .buffers) f → Verdict h (Complete z a e d room) (completedAs h (completeAt t f))
+      go Nowhere m = at-2 h (Complete z a e d room) p (none-at-all (holds k) refl m) refl
+      go (At n) r = complete-slot z a e d room p n r (at (t .buffers) (n .0) .slot) refl
 
   launch-sorted : (room : ℕ) → fitting h (Launch room) ≡ true → Past h (Launch room) 4
       → Verdict h (Launch room) (launchedBy (withTranslator h (launch (h .translator) .next)) (launch (h .translator) .answer) (launch (h .translator) .payload))
@@ -448,10 +465,10 @@ module _ (h : Hub) (valid : ValidHub h) where
 
   rule-sorted : (c : Call) → within h c ≡ true → fitting h c ≡ true → ¬ (Misplaced h c) → Past h c 4 → Verdict h c (rule.served h c)
   unfolding rule.served
-  rule-sorted (Control s room) w f m p = control-sorted h s room p
-  rule-sorted (Poll room) w f m p = poll-sorted room p
-  rule-sorted (Start x t f g a e l) w fit m p = start-sorted x t f g a e l w p
-  rule-sorted (Complete a e d room) w f m p = complete-sorted a e d room p
+  rule-sorted (Control z s room) w f m p = control-sorted h z s room p
+  rule-sorted (Poll z room) w f m p = poll-sorted z room p
+  rule-sorted (Start z x t f g a e l) w fit m p = start-sorted z x t f g a e l w p
+  rule-sorted (Complete z a e d room) w f m p = complete-sorted z a e d room p
   rule-sorted (Launch room) w f m p = launch-sorted room f p
   rule-sorted (Deliver r l) w f m p =
       at-last h (Deliver r l) p never never never

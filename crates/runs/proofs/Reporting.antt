@@ -31,7 +31,8 @@ use Rattle.ports.specs.Claims.{Among}
 use Rattle.ports.proofs.Laws.{ports-claims}
 use Rattle.translator.specs.CompleteSplit.{completeSplit}
 use Rattle.translator.specs.Launch.{launch}
-use Rattle.numbers.specs.Named.{isEvent, eventFrom, portNamed}
+use Rattle.buffer.specs.declared.Lane.{Lane}
+use Rattle.numbers.specs.Named.{laneFrom, isEvent, eventFrom, portNamed}
 use Rattle.numbers.specs.Split.{keyFrom}
 use Rattle.numbers.specs.Written.{eventNumber}
 use Rattle.numbers.proofs.Laws.{numbers-claims}
@@ -141,9 +142,9 @@ meaning-asks kind.SetPortFeature v i l x = refl
 meaning-asks kind.ClearTTBuffer v i l x = refl
 meaning-asks kind.ResetTT v i l x = refl
 
-request-asks : (n : ℕ) (s : List ℕ) (room : ℕ) → AsksFor (requestOf n s) (portAsks (Control s room))
+request-asks : (n z : ℕ) (s : List ℕ) (room : ℕ) → AsksFor (requestOf n s) (portAsks (Control z s room))
 unfolding portAsks requestOf
-request-asks n s room =
+request-asks n z s room =
     let x = setupOf s in
     let k = kindOf (x .requesttype) (x .code) in
     checks (λ r. AsksFor r (requestAsks k (x .value) (x .index))) n k (x .value) (x .index) (x .length) (λ f. tt)
@@ -223,43 +224,43 @@ module _ (h : Hub) (v : ValidHub h) (m : PortNumber) (among : Among (h .identity
 
   -- ---- the requests
 
-  clear-report : (n : PortNumber) (f : ClearableFeature) → Says (clearAsks (n .0) f) (byRequest h (ClearPortFeature n f))
+  clear-report : (y : Lane) (n : PortNumber) (f : ClearableFeature) → Says (clearAsks (n .0) f) (byRequest h y (ClearPortFeature n f))
   unfolding reportedAfter
-  clear-report n clearable.Enable = kept-report n (clearFeature clearable.Enable) refl
-  clear-report n clearable.Suspend = kept-report n (clearFeature clearable.Suspend) refl
-  clear-report n clearable.Power = kept-report n (clearFeature clearable.Power) refl
-  clear-report n (clearable.Change bit.Connection) = kept-report n (clearFeature (clearable.Change bit.Connection)) refl
-  clear-report n (clearable.Change bit.Enable) =
+  clear-report y n clearable.Enable = kept-report n (clearFeature clearable.Enable) refl
+  clear-report y n clearable.Suspend = kept-report n (clearFeature clearable.Suspend) refl
+  clear-report y n clearable.Power = kept-report n (clearFeature clearable.Power) refl
+  clear-report y n (clearable.Change bit.Connection) = kept-report n (clearFeature (clearable.Change bit.Connection)) refl
+  clear-report y n (clearable.Change bit.Enable) =
       set-report (clears (n .0)) (plainAnswer 0) n (clearFeature (clearable.Change bit.Enable)) (λ e. rw e) (λ e. rw e)
-  clear-report n (clearable.Change bit.Suspend) = kept-report n (clearFeature (clearable.Change bit.Suspend)) refl
-  clear-report n (clearable.Change bit.OverCurrent) = kept-report n (clearFeature (clearable.Change bit.OverCurrent)) refl
-  clear-report n (clearable.Change bit.Reset) = kept-report n (clearFeature (clearable.Change bit.Reset)) refl
+  clear-report y n (clearable.Change bit.Suspend) = kept-report n (clearFeature (clearable.Change bit.Suspend)) refl
+  clear-report y n (clearable.Change bit.OverCurrent) = kept-report n (clearFeature (clearable.Change bit.OverCurrent)) refl
+  clear-report y n (clearable.Change bit.Reset) = kept-report n (clearFeature (clearable.Change bit.Reset)) refl
 
-  by-request : (x : PortAsks) (r : Request) → AsksFor r x → Says x (byRequest h r)
+  by-request : (x : PortAsks) (y : Lane) (r : Request) → AsksFor r x → Says x (byRequest h y r)
   unfolding configuredAs reportedAfter
-  by-request x (Wrong f) q = refusal x 2 refl
-  by-request x (SetConfiguration true) q = quiet x (byRequest h (SetConfiguration true)) q (swept-kept sweep.Configure (λ p. refl))
-  by-request x (SetConfiguration false) q = quiet x (byRequest h (SetConfiguration false)) q (swept-kept sweep.Unconfigure (λ p. refl))
-  by-request x GetConfiguration q = quiet x (byRequest h GetConfiguration) q refl
-  by-request x (GetHubDescriptor n) q = quiet x (byRequest h (GetHubDescriptor n)) q refl
-  by-request x GetHubStatus q = quiet x (byRequest h GetHubStatus) q refl
-  by-request x (GetPortStatus n) q = as-asked x (reads (n .0)) (byRequest h (GetPortStatus n)) q refl
-  by-request x ClearHubFeature q = quiet x (byRequest h ClearHubFeature) q refl
-  by-request x (ClearPortFeature n f) q = as-asked x (clearAsks (n .0) f) (byRequest h (ClearPortFeature n f)) q (clear-report n f)
-  by-request x (SetPortFeature n f) q = quiet x (byRequest h (SetPortFeature n f)) q (kept-report n (setFeature f) refl)
-  by-request x (ClearTTBuffer k) q = quiet x (byRequest h (ClearTTBuffer k)) q refl
-  by-request x ResetTT q = quiet x (byRequest h ResetTT) q refl
+  by-request x y (Wrong f) q = refusal x 2 refl
+  by-request x y (SetConfiguration true) q = quiet x (byRequest h y (SetConfiguration true)) q (swept-kept sweep.Configure (λ p. refl))
+  by-request x y (SetConfiguration false) q = quiet x (byRequest h y (SetConfiguration false)) q (swept-kept sweep.Unconfigure (λ p. refl))
+  by-request x y GetConfiguration q = quiet x (byRequest h y GetConfiguration) q refl
+  by-request x y (GetHubDescriptor n) q = quiet x (byRequest h y (GetHubDescriptor n)) q refl
+  by-request x y GetHubStatus q = quiet x (byRequest h y GetHubStatus) q refl
+  by-request x y (GetPortStatus n) q = as-asked x (reads (n .0)) (byRequest h y (GetPortStatus n)) q refl
+  by-request x y ClearHubFeature q = quiet x (byRequest h y ClearHubFeature) q refl
+  by-request x y (ClearPortFeature n f) q = as-asked x (clearAsks (n .0) f) (byRequest h y (ClearPortFeature n f)) q (clear-report y n f)
+  by-request x y (SetPortFeature n f) q = quiet x (byRequest h y (SetPortFeature n f)) q (kept-report n (setFeature f) refl)
+  by-request x y (ClearTTBuffer k) q = quiet x (byRequest h y (ClearTTBuffer k)) q refl
+  by-request x y ResetTT q = quiet x (byRequest h y ResetTT) q refl
 
-  control : (s : List ℕ) (room : ℕ) → Says (portAsks (Control s room)) (requested h (requestOf (h .identity .ports) s))
+  control : (z : ℕ) (s : List ℕ) (room : ℕ) → Says (portAsks (Control z s room)) (requested h (laneFrom z) (requestOf (h .identity .ports) s))
   unfolding requested
-  control s room = go (h .configured || servedAlways r)
+  control z s room = go (h .configured || servedAlways r)
     where
       r : Request
       r = requestOf (h .identity .ports) s
 
-      go : (x : Bool) → Says (portAsks (Control s room)) (cond x (byRequest h r) (refuse 2 h))
-      go true = by-request (portAsks (Control s room)) r (request-asks (h .identity .ports) s room)
-      go false = refusal (portAsks (Control s room)) 2 refl
+      go : (x : Bool) → Says (portAsks (Control z s room)) (cond x (byRequest h (laneFrom z) r) (refuse 2 h))
+      go true = by-request (portAsks (Control z s room)) (laneFrom z) r (request-asks (h .identity .ports) z s room)
+      go false = refusal (portAsks (Control z s room)) 2 refl
 
   -- ---- the other calls
 
@@ -307,11 +308,11 @@ module _ (h : Hub) (v : ValidHub h) (m : PortNumber) (among : Among (h .identity
 
   serve : (c : Call) → within h c ≡ true → fitting h c ≡ true → Says (portAsks c) (served h c)
   unfolding served within portAsks resetHub reportedAfter
-  serve (Control s room) w f = control s room
-  serve (Poll room) w f = poll
-  serve (Start p t l g a e b) w f = refl
-  serve (Complete a e d room) w f =
-      let o = completeSplit (h .translator) (keyFrom a e d) in
+  serve (Control z s room) w f = control z s room
+  serve (Poll z room) w f = poll
+  serve (Start z p t l g a e b) w f = refl
+  serve (Complete z a e d room) w f =
+      let o = completeSplit (h .translator) (keyFrom z a e d) in
       ap (λ (k : Hub). reportOf k m) (completed-next (withTranslator h (o .next)) (o .answer) (o .payload))
   serve (Launch room) w f =
       let o = launch (h .translator) in
@@ -343,28 +344,28 @@ module _ (g : History) (h : Hub) (tied : Tied g h) where
   unread : (x : PortAsks) (a : Answer) → x ≡ nothing → Shows x a g
   unread x a e = subst (λ (z : PortAsks). Shows z a g) (sym e) tt
 
-  request-shows : (x : PortAsks) (r : Request) → AsksFor r x → InRange (h .identity .ports) r → Shows x (byRequest h r .answer) g
-  request-shows x (Wrong f) q i = not-data x _ refl
-  request-shows x (SetConfiguration on) q i = unread x _ q
-  request-shows x GetConfiguration q i = unread x _ q
-  request-shows x (GetHubDescriptor n) q i = unread x _ q
-  request-shows x GetHubStatus q i = unread x _ q
-  request-shows x (GetPortStatus n) q i =
-      subst (λ (z : PortAsks). Shows z (byRequest h (GetPortStatus n) .answer) g) (sym q) (λ one. status-shows (portAt (h .ports) n) ∙ tied n i)
-  request-shows x ClearHubFeature q i = unread x _ q
-  request-shows x (ClearPortFeature n f) q i = not-data x _ refl
-  request-shows x (SetPortFeature n f) q i = unread x _ q
-  request-shows x (ClearTTBuffer k) q i = unread x _ q
-  request-shows x ResetTT q i = unread x _ q
+  request-shows : (x : PortAsks) (y : Lane) (r : Request) → AsksFor r x → InRange (h .identity .ports) r → Shows x (byRequest h y r .answer) g
+  request-shows x y (Wrong f) q i = not-data x _ refl
+  request-shows x y (SetConfiguration on) q i = unread x _ q
+  request-shows x y GetConfiguration q i = unread x _ q
+  request-shows x y (GetHubDescriptor n) q i = unread x _ q
+  request-shows x y GetHubStatus q i = unread x _ q
+  request-shows x y (GetPortStatus n) q i =
+      subst (λ (z : PortAsks). Shows z (byRequest h y (GetPortStatus n) .answer) g) (sym q) (λ one. status-shows (portAt (h .ports) n) ∙ tied n i)
+  request-shows x y ClearHubFeature q i = unread x _ q
+  request-shows x y (ClearPortFeature n f) q i = not-data x _ refl
+  request-shows x y (SetPortFeature n f) q i = unread x _ q
+  request-shows x y (ClearTTBuffer k) q i = unread x _ q
+  request-shows x y ResetTT q i = unread x _ q
 
-  control-shows : (s : List ℕ) (room : ℕ) → Shows (portAsks (Control s room)) (requested h (requestOf (h .identity .ports) s) .answer) g
+  control-shows : (z : ℕ) (s : List ℕ) (room : ℕ) → Shows (portAsks (Control z s room)) (requested h (laneFrom z) (requestOf (h .identity .ports) s) .answer) g
   unfolding requested
-  control-shows s room =
+  control-shows z s room =
       let n = h .identity .ports in
       let r = requestOf n s in
-      elim (h .configured || servedAlways r) as (λ b. Shows (portAsks (Control s room)) (cond b (byRequest h r) (refuse 2 h) .answer) g) [
-        | true ↦ request-shows (portAsks (Control s room)) r (request-asks n s room) (request-claims .in-range n s)
-        | false ↦ not-data (portAsks (Control s room)) (plainAnswer 2) refl
+      elim (h .configured || servedAlways r) as (λ b. Shows (portAsks (Control z s room)) (cond b (byRequest h (laneFrom z) r) (refuse 2 h) .answer) g) [
+        | true ↦ request-shows (portAsks (Control z s room)) (laneFrom z) r (request-asks n z s room) (request-claims .in-range n s)
+        | false ↦ not-data (portAsks (Control z s room)) (plainAnswer 2) refl
       ]
 
   line-shows : (e n : ℕ) (a : Answer) → Shows (cond (eqb e (eventNumber PortError)) (errs n) nothing) a g
@@ -376,10 +377,10 @@ module _ (g : History) (h : Hub) (tied : Tied g h) where
 
   serve-shows : (c : Call) → Shows (portAsks c) (served h c .answer) g
   unfolding served portAsks
-  serve-shows (Control s room) = control-shows s room
-  serve-shows (Poll room) = tt
-  serve-shows (Start p t l f a e b) = tt
-  serve-shows (Complete a e d room) = tt
+  serve-shows (Control z s room) = control-shows z s room
+  serve-shows (Poll z room) = tt
+  serve-shows (Start z p t l f a e b) = tt
+  serve-shows (Complete z a e d room) = tt
   serve-shows (Launch room) = tt
   serve-shows (Deliver r b) = tt
   serve-shows (Line e n) = line-shows e n _

@@ -23,7 +23,7 @@ use Rattle.runs.proofs.Refuted.{bench, configure}
 
 -- SetPortFeature
 abbrev set-feature : ℕ → Call
-set-feature feature = Control (0x23 ∷ 0x03 ∷ feature ∷ 0 ∷ 1 ∷ 0 ∷ 0 ∷ 0 ∷ []) 64
+set-feature feature = Control 0 (0x23 ∷ 0x03 ∷ feature ∷ 0 ∷ 1 ∷ 0 ∷ 0 ∷ 0 ∷ []) 64
 
 -- PORT_POWER, attach full, PORT_RESET, 15 ticks: calls 0 to 18
 abbrev enabled : List Call
@@ -31,7 +31,7 @@ enabled = configure ∷ set-feature 8 ∷ Line 1 1 ∷ set-feature 4 ∷ replica
 
 -- GetPortStatus
 abbrev status : Call
-status = Control (0xA3 ∷ 0x00 ∷ 0 ∷ 0 ∷ 1 ∷ 0 ∷ 4 ∷ 0 ∷ []) 64
+status = Control 0 (0xA3 ∷ 0x00 ∷ 0 ∷ 0 ∷ 1 ∷ 0 ∷ 4 ∷ 0 ∷ []) 64
 
 -- what call i of a run must show
 ShowsAt : ℕ → History → List Event → Type 0

@@ -1,18 +1,12 @@
 -- Demand 3 over whole runs of the rules. Assumes nothing.
-use Prim.Native.Nat.{ℕ}
 use mathlib.Core.Path.{_≡_, refl, sym, _∙_, ap, ap₂}
 use mathlib.Core.Option.{Option, some}
 use mathlib.Core.List.{List, [], _∷_, map}
 use mathlib.Core.Bool.{Bool, true, false}
 use lib.ListN.{length}
-use Rattle.buffer.specs.declared.Key.{Key}
 use Rattle.buffer.specs.declared.Slot.{Slot}
 use Rattle.buffer.specs.declared.Slot.the-variants.{Empty, Pending, Ready, Old}
 use Rattle.buffer.specs.declared.Buffer.{Buffer}
-use Rattle.buffer.specs.Key as key
-use Rattle.buffer.specs.Key.{sameKey}
-use Rattle.buffer.specs.Buffer.{holds}
-use Rattle.buffer.proofs.Keys.{same-true, same-eq, same-refl}
 use Rattle.translator.specs.declared.Translator.{Translator}
 use Rattle.translator.specs.declared.LowSide.{LowSide}
 use Rattle.translator.specs.declared.LowSide.the-variants.{Idle, Running, Abandoned}
@@ -22,13 +16,13 @@ use Rattle.hub.specs.declared.Hub.{Hub}
 use Rattle.hub.specs.Call.{Call, Control, Poll, Start, Complete, Launch, Deliver, Event as Line, Tick, BusReset, Answer, Outcome}
 use Rattle.hub.specs.Step.{step}
 use Rattle.hub.proofs.Numbers.{fits}
-use Rattle.runs.specs.History.{History, Asks, nothing, starts, completes, launches, delivers, clears, empties, keyOf, asks, answerKey, isOpen, For, lastFor}
+use Rattle.runs.specs.History.{History, Asks, nothing, starts, completes, launches, delivers, clears, resets, empties, asks, answerKey, isOpen, For, lastFor}
 use Rattle.runs.specs.Machine.{Numbers, newHubOf, rules, runFrom}
-use Rattle.runs.specs.Demand3.{SameCall, same, start, deliver, SameCalls, Excepted, SameAnswer, SameAnswers, AllExplained, Demand3}
+use Rattle.runs.specs.Demand3.{Marks, onlyKey, everyKeyOf, SameCall, same, start, deliver, SameCalls, Excepted, SameAnswer, SameAnswers, Hidden, AllExplained, Demand3}
 use Rattle.runs.proofs.Invariant.{LowOk, RunsFor, empty-kept}
 use Rattle.runs.proofs.Kept.{ev, Tied}
 use Rattle.runs.proofs.Steps.{step-kept}
-use Rattle.runs.proofs.Hiding.{blank, length-blank, hideB, hideT, shown, hide-at}
+use Rattle.runs.proofs.Hiding.{blank, length-blank, covered, hideB, hideT, shown, hide-at}
 use Rattle.runs.proofs.HidingHub.{hideH, hideC, excepted, hideA, hideO, step-hide}
 
 -- ---- a new hub
@@ -50,7 +44,7 @@ all-explained (c ∷ cs) h hub tied =
 
 -- ---- two runs that differ in the marked bytes alone
 
-module _ (m : Key) where
+module _ (m : Marks) where
   shown-hide : (bs : List Buffer) (l : LowSide) → shown m (map (hideB m) bs) l ≡ shown m bs l
   shown-hide bs Idle = refl
   shown-hide bs (Running n) = rw (hide-at m bs (n .0))
@@ -63,14 +57,14 @@ module _ (m : Key) where
   for-key : {x y : For} → _≡_ {A = Option For} (some x) (some y) → x .key ≡ y .key
   for-key {x} {y} e = let p : x ≡ y = cc in ap (λ (z : For). z .key) p
 
-  -- a delivery for the mark may be blanked
-  shown-for : (h : History) (t : Translator) (s : Option ℕ) → Tied h t → lastFor h ≡ some (record { key = m; place = s })
+  -- a delivery for a marked key may be blanked
+  shown-for : (h : History) (t : Translator) (s : For) → Tied h t → lastFor h ≡ some s → m (s .key) ≡ true
       → shown m (t .buffers) (t .low) ≡ true
-  shown-for h t s tied f = go (t .low) (tied .inv .low-ok)
+  shown-for h t s tied f k = go (t .low) (tied .inv .low-ok)
     where
-      by : (x : Slot) → RunsFor h x → holds m x ≡ true
+      by : (x : Slot) → RunsFor h x → covered m x ≡ true
       by Empty w = absurd w
-      by (Pending q p) w = same-eq (key.keyOf q) m (for-key (sym w ∙ f))
+      by (Pending q p) w = ap m (for-key (sym w ∙ f)) ∙ k
       by (Ready q r) w = absurd w
       by (Old q r) w = absurd w
 
@@ -79,45 +73,42 @@ module _ (m : Key) where
       go (Running n) w = by (at (t .buffers) (n .0) .slot) w
       go Abandoned w = refl
 
-  call-hidden : (h : History) (g u : Hub) (c d : Call) → Tied h (g .translator) → hideH m g ≡ hideH m u → SameCall m (lastFor h) c d → hideC m g c ≡ hideC m u d
+  pub call-hidden : (h : History) (g u : Hub) (c d : Call) → Tied h (g .translator) → hideH m g ≡ hideH m u → SameCall m (lastFor h) c d → hideC m g c ≡ hideC m u d
   call-hidden h g u c d tied e (same x) = go x
     where
       go : (x : Call) → hideC m g x ≡ hideC m u x
-      go (Control s room) = refl
-      go (Poll room) = refl
-      go (Start p t f q a n l) = refl
-      go (Complete a n x room) = refl
+      go (Control z s room) = refl
+      go (Poll z room) = refl
+      go (Start z p t f q a n l) = refl
+      go (Complete z a n x room) = refl
       go (Launch room) = refl
       go (Deliver r l) = rw (shown-same (g .translator) (u .translator) (ap (λ (x : Hub). x .translator) e))
       go (Line x n) = refl
       go Tick = refl
       go BusReset = refl
-  call-hidden h g u c d tied e (start p t f q a n x y k l) = rw (k, same-refl m, l)
-  call-hidden h g u c d tied e (deliver r x y s f l) =
-      rw (← shown-same (g .translator) (u .translator) (ap (λ (x : Hub). x .translator) e), shown-for h (g .translator) s tied f, l)
+  call-hidden h g u c d tied e (start z p t f q a n x y k l) = rw (k, l)
+  call-hidden h g u c d tied e (deliver r x y s f k l) =
+      rw (← shown-same (g .translator) (u .translator) (ap (λ (x : Hub). x .translator) e), shown-for h (g .translator) s tied f k, l)
 
   -- both calls ask the same but for bytes, which the exception doesn't see
   same-hidden : (l : Option For) (c d : Call) (a : Answer) → SameCall m l c d → hideA m (asks d) a ≡ hideA m (asks c) a
   unfolding asks
   same-hidden l c d a (same x) = refl
-  same-hidden l c d a (start p t f q b n x y k e) = refl
-  same-hidden l c d a (deliver r x y s f e) = refl
+  same-hidden l c d a (start z p t f q b n x y k e) = refl
+  same-hidden l c d a (deliver r x y s f k e) = refl
+
+  unmarked : (b : Bool) → ¬ (b ≡ true) → b ≡ false
+  unmarked true n = absurd (n refl)
+  unmarked false n = refl
 
   not-excepted : (x : Asks) (a : Answer) → ¬ (Excepted m x a) → excepted m x a ≡ false
   not-excepted nothing a n = refl
   not-excepted (starts k) a n = refl
-  not-excepted (completes k) a n = go (sameKey k m) refl
-    where
-      go : (b : Bool) → sameKey k m ≡ b → b ≡ false
-      go true e = absurd (n (same-true k m e))
-      go false e = refl
-  not-excepted launches a n = go (sameKey (answerKey a) m) refl
-    where
-      go : (b : Bool) → sameKey (answerKey a) m ≡ b → b ≡ false
-      go true e = absurd (n (same-true (answerKey a) m e))
-      go false e = refl
+  not-excepted (completes k) a n = unmarked (m k) n
+  not-excepted launches a n = unmarked (m (answerKey a)) n
   not-excepted (delivers r l) a n = refl
   not-excepted (clears k) a n = refl
+  not-excepted (resets z) a n = refl
   not-excepted empties a n = refl
 
   -- answers that are the same once blanked
@@ -127,6 +118,7 @@ module _ (m : Key) where
         number = ap (λ (x : Answer). x .number) e;
         pid = ap (λ (x : Answer). x .pid) e;
         transfer = ap (λ (x : Answer). x .transfer) e;
+        lane = ap (λ (x : Answer). x .lane) e;
         address = ap (λ (x : Answer). x .address) e;
         endpoint = ap (λ (x : Answer). x .endpoint) e;
         direction = ap (λ (x : Answer). x .direction) e;
@@ -145,13 +137,14 @@ module _ (m : Key) where
       excepted-same nothing = refl
       excepted-same (starts k) = refl
       excepted-same (completes k) = refl
-      excepted-same launches = ap (λ (x : Answer). sameKey (answerKey x) m) e
+      excepted-same launches = ap (λ (x : Answer). m (answerKey x)) e
       excepted-same (delivers r l) = refl
       excepted-same (clears k) = refl
+      excepted-same (resets z) = refl
       excepted-same empties = refl
 
   -- one call of each run: the answers agree but for the marked bytes, and so do the hubs left
-  step-same : (h : History) (g u : Hub) (c d : Call) → Tied h (g .translator) → hideH m g ≡ hideH m u → SameCall m (lastFor h) c d
+  pub step-same : (h : History) (g u : Hub) (c d : Call) → Tied h (g .translator) → hideH m g ≡ hideH m u → SameCall m (lastFor h) c d
       → SameAnswer m c (step g c .answer) (step u d .answer) × (hideH m (step g c .next) ≡ hideH m (step u d .next))
   step-same h g u c d tied e s = (
     answer-same c (step g c .answer) (step u d .answer)
@@ -172,9 +165,14 @@ module _ (m : Key) where
       let one = step-same h g u c d tied e (s .0) in
       (one .0, runs-same cs ds (ev c (step g c .answer) ∷ h) (step g c .next) (step u d .next) (step-kept h g tied c .0) (one .1) (s .1))
 
+hidden : (m : Marks) → Hidden rules m
+hidden m n cs ds s = runs-same m cs ds [] (newHubOf n) (newHubOf n) (new-tied n) refl s
+
 pub demand-3 : Demand3 rules
 demand-3 =
     record {
-      mark-hidden = λ m n cs ds s. runs-same m cs ds [] (newHubOf n) (newHubOf n) (new-tied n) refl s;
+      set-hidden = hidden;
+      mark-hidden = λ m. hidden (onlyKey m);
+      lane-hidden = λ z. hidden (everyKeyOf z);
       data-explained = λ n cs. all-explained cs [] (newHubOf n) (new-tied n);
     }

@@ -3,45 +3,59 @@ use Prim.Native.Nat.{ℕ}
 use mathlib.Core.Path.{_≡_}
 use mathlib.Core.Option.{Option, some}
 use mathlib.Core.List.{List, [], _∷_}
+use mathlib.Core.Bool.{Bool, true}
 use lib.ListN.{length}
+use Rattle.buffer.specs.declared.Lane.{Lane}
 use Rattle.buffer.specs.declared.Key.{Key}
-use Rattle.buffer.specs.Key.{directionOf}
-use Rattle.numbers.specs.Named.{pidFrom}
+use Rattle.buffer.specs.Key.{sameLane, sameKey, directionOf}
+use Rattle.numbers.specs.Named.{laneFrom, pidFrom}
 use Rattle.hub.specs.Call.{Call, Start, Deliver, Answer}
-use Rattle.runs.specs.History.{Event, History, Asks, nothing, starts, completes, launches, delivers, clears, empties, keyOf, asks, answerKey, lastStored, For, lastFor, deliveredTo}
+use Rattle.runs.specs.History.{Event, History, Asks, nothing, starts, completes, launches, delivers, clears, resets, empties, keyOf, asks, answerKey, lastStored, For, lastFor, deliveredTo}
 use Rattle.runs.specs.Machine.{Machine, run}
 
 -- ---- first half: whatever the marked bytes are, they show nowhere else
 
--- Two calls of the two runs: the same but for payload bytes in start-splits to the mark m and in results delivered for it (l is what the
+-- The marked keys: a test of keys. One key is a case, every key of a lane another.
+abbrev pub Marks : Type 0
+Marks = Key → Bool
+
+abbrev pub onlyKey : Key → Marks
+onlyKey m k = sameKey k m
+
+abbrev pub everyKeyOf : Lane → Marks
+everyKeyOf z k = sameLane (k .lane) z
+
+-- Two calls of the two runs: the same but for payload bytes in start-splits to a marked key and in results delivered for one (l is what the
 -- first run's last launch answered 1 was for); lengths and kinds agree.
-pub data SameCall (m : Key) (l : Option For) : Call → Call → Type 0 where
+pub data SameCall (m : Marks) (l : Option For) : Call → Call → Type 0 where
   same : (c : Call) → SameCall m l c c
-  start : (p t f g a e : ℕ) (x y : List ℕ) → keyOf a e (directionOf (pidFrom p)) ≡ m → length x ≡ length y
-      → SameCall m l (Start p t f g a e x) (Start p t f g a e y)
-  deliver : (r : ℕ) (x y : List ℕ) (s : Option ℕ) → l ≡ some (record { key = m; place = s }) → length x ≡ length y
+  start : (z p t f g a e : ℕ) (x y : List ℕ) → m (keyOf (laneFrom z) a e (directionOf (pidFrom p))) ≡ true → length x ≡ length y
+      → SameCall m l (Start z p t f g a e x) (Start z p t f g a e y)
+  deliver : (r : ℕ) (x y : List ℕ) (s : For) → l ≡ some s → m (s .key) ≡ true → length x ≡ length y
       → SameCall m l (Deliver r x) (Deliver r y)
 
-unfoldable pub SameCalls : Key → History → List Event → List Event → Type 0
+unfoldable pub SameCalls : Marks → History → List Event → List Event → Type 0
 SameCalls m h [] [] = Unit {0}
 SameCalls m h [] (f ∷ fs) = ⊥
 SameCalls m h (e ∷ es) [] = ⊥
 SameCalls m h (e ∷ es) (f ∷ fs) = SameCall m (lastFor h) (e .call) (f .call) × SameCalls m (e ∷ h) es fs
 
--- payload bytes launched for the mark or answered to complete-splits for it
-abbrev pub Excepted : Key → Asks → Answer → Type 0
+-- payload bytes launched for a marked key or answered to complete-splits for it
+abbrev pub Excepted : Marks → Asks → Answer → Type 0
 Excepted m nothing a = ⊥
 Excepted m (starts k) a = ⊥
-Excepted m (completes k) a = k ≡ m
-Excepted m launches a = answerKey a ≡ m
+Excepted m (completes k) a = m k ≡ true
+Excepted m launches a = m (answerKey a) ≡ true
 Excepted m (delivers r l) a = ⊥
 Excepted m (clears k) a = ⊥
+Excepted m (resets z) a = ⊥
 Excepted m empties a = ⊥
 
-pub record SameAnswer (m : Key) (c : Call) (a b : Answer) : Type 0 where
+pub record SameAnswer (m : Marks) (c : Call) (a b : Answer) : Type 0 where
   pub number : a .number ≡ b .number
   pub pid : a .pid ≡ b .pid
   pub transfer : a .transfer ≡ b .transfer
+  pub lane : a .lane ≡ b .lane
   pub address : a .address ≡ b .address
   pub endpoint : a .endpoint ≡ b .endpoint
   pub direction : a .direction ≡ b .direction
@@ -50,7 +64,7 @@ pub record SameAnswer (m : Key) (c : Call) (a b : Answer) : Type 0 where
   pub size : length (a .bytes) ≡ length (b .bytes)
   pub bytes : ¬ (Excepted m (asks c) a) → a .bytes ≡ b .bytes
 
-unfoldable pub SameAnswers : Key → List Event → List Event → Type 0
+unfoldable pub SameAnswers : Marks → List Event → List Event → Type 0
 SameAnswers m [] [] = Unit {0}
 SameAnswers m [] (f ∷ fs) = ⊥
 SameAnswers m (e ∷ es) [] = ⊥
@@ -58,8 +72,20 @@ SameAnswers m (e ∷ es) (f ∷ fs) = SameAnswer m (e .call) (e .answer) (f .ans
 
 -- Take any two runs on equal new hubs that hold the same calls in the same order, but for those bytes. Then each call has the same answer
 -- in both, except those bytes.
+abbrev pub Hidden : (w : Machine) → Marks → Type 0
+Hidden w m = (n : w .Made) (cs ds : List (w .Asked)) → SameCalls m [] (run w n cs) (run w n ds) → SameAnswers m (run w n cs) (run w n ds)
+
+-- whatever keys are marked
+abbrev pub SetHidden : Machine → Type 0
+SetHidden w = (m : Marks) → Hidden w m
+
+-- one key
 abbrev pub MarkHidden : Machine → Type 0
-MarkHidden w = (m : Key) (n : w .Made) (cs ds : List (w .Asked)) → SameCalls m [] (run w n cs) (run w n ds) → SameAnswers m (run w n cs) (run w n ds)
+MarkHidden w = (m : Key) → Hidden w (onlyKey m)
+
+-- every key of a lane: no payload byte of the lane z shows in any answer but to its own complete-splits, and in its own launches
+abbrev pub LaneHidden : Machine → Type 0
+LaneHidden w = (z : Lane) → Hidden w (everyKeyOf z)
 
 -- ---- second half: a data answer holds exactly the bytes delivered for the latest start-split stored under its key
 
@@ -72,6 +98,7 @@ Explained (completes k) a h = a .number ≡ 1 → deliveredTo h (lastStored h k)
 Explained launches a h = Unit {0}
 Explained (delivers r l) a h = Unit {0}
 Explained (clears k) a h = Unit {0}
+Explained (resets z) a h = Unit {0}
 Explained empties a h = Unit {0}
 
 -- each of the events es, which came after h
@@ -83,5 +110,7 @@ abbrev pub DataExplained : Machine → Type 0
 DataExplained w = (n : w .Made) (cs : List (w .Asked)) → AllExplained [] (run w n cs)
 
 pub record Demand3 (w : Machine) : Type 0 where
+  pub set-hidden : SetHidden w
   pub mark-hidden : MarkHidden w
+  pub lane-hidden : LaneHidden w
   pub data-explained : DataExplained w

@@ -27,12 +27,12 @@ pretendedBy (Stored n p) h g = h
 
 -- do the first start properly and only pretend for later ones
 abbrev pub pretends : Hub → Call → Outcome
-pretends h (Control s room) = step h (Control s room)
-pretends h (Poll room) = step h (Poll room)
-pretends h (Start p t f g a e l) =
-    let o = step h (Start p t f g a e l) in
+pretends h (Control z s room) = step h (Control z s room)
+pretends h (Poll z room) = step h (Poll z room)
+pretends h (Start z p t f g a e l) =
+    let o = step h (Start z p t f g a e l) in
     record { next = pretendedBy (earliest (h .translator .buffers)) h (o .next); answer = o .answer }
-pretends h (Complete a e d room) = step h (Complete a e d room)
+pretends h (Complete z a e d room) = step h (Complete z a e d room)
 pretends h (Launch room) = step h (Launch room)
 pretends h (Deliver r l) = step h (Deliver r l)
 pretends h (Event e n) = step h (Event e n)

@@ -47,10 +47,10 @@ requestAsks kind.ClearTTBuffer v i = nothing
 requestAsks kind.ResetTT v i = nothing
 
 unfoldable pub portAsks : Call → PortAsks
-portAsks (Control s room) = requestAsks (kindOf (setupOf s .requesttype) (setupOf s .code)) (setupOf s .value) (setupOf s .index)
-portAsks (Poll room) = nothing
-portAsks (Start p t f g a e l) = nothing
-portAsks (Complete a e d room) = nothing
+portAsks (Control z s room) = requestAsks (kindOf (setupOf s .requesttype) (setupOf s .code)) (setupOf s .value) (setupOf s .index)
+portAsks (Poll z room) = nothing
+portAsks (Start z p t f g a e l) = nothing
+portAsks (Complete z a e d room) = nothing
 portAsks (Launch room) = nothing
 portAsks (Deliver r l) = nothing
 portAsks (LineEvent e n) = cond (eqb e (eventNumber PortError)) (errs n) nothing

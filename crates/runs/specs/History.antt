@@ -7,18 +7,20 @@ use mathlib.Core.List.{List, [], _∷_, _++_}
 use mathlib.Core.Bool.{Bool, false, cond, not, _&&_, _||_}
 use lib.ListN.{length}
 use lib.Dec.{eqb}
+use Rattle.buffer.specs.declared.Lane.{Lane}
 use Rattle.buffer.specs.declared.Direction.{Direction}
 use Rattle.buffer.specs.declared.Key.{Key}
 use Rattle.buffer.specs.declared.DeviceResult.{DeviceResult}
-use Rattle.buffer.specs.Key.{sameKey, directionOf}
+use Rattle.buffer.specs.Key.{keyWith, sameLane, sameKey, directionOf}
 use Rattle.buffer.specs.Lengths.{isData}
 use Rattle.translator.specs.Answers.{resultPid}
-use Rattle.numbers.specs.Named.{pidFrom, resultFrom, directionFrom}
+use Rattle.numbers.specs.Named.{laneFrom, pidFrom, resultFrom, directionFrom}
 use Rattle.request.specs.declared.Kind.{Kind}
 use Rattle.request.specs.declared.Kind.the-variants as kind
 use Rattle.request.specs.Setup.{setupOf}
-use Rattle.request.specs.Values.{keyIn}
+use Rattle.request.specs.Values.{pipeIn}
 use Rattle.request.specs.Table.{kindOf}
+use Rattle.hub.specs.Requests.{keyed}
 use Rattle.hub.specs.Call.{Call, Control, Poll, Start, Complete, Launch, Deliver, Event as LineEvent, Tick, BusReset, Answer}
 
 pub record Event : Type 0 where
@@ -37,31 +39,32 @@ pub data Asks : Type 0 where
   launches : Asks
   delivers : DeviceResult → List ℕ → Asks
   clears : Key → Asks
+  resets : Lane → Asks
   empties : Asks
 
--- A key is address, endpoint, direction.
-abbrev pub keyOf : ℕ → ℕ → Direction → Key
-keyOf a e d = record { address = record { 0 = a }; endpoint = e; direction = d }
+-- A key is lane, address, endpoint, direction.
+abbrev pub keyOf : Lane → ℕ → ℕ → Direction → Key
+keyOf z a e d = keyWith z (record { 0 = a }) e d
 
--- a request's kind and its wValue
-abbrev pub requestAsks : Kind → ℕ → Asks
-requestAsks kind.Unknown v = nothing
-requestAsks kind.SetConfiguration v = empties
-requestAsks kind.GetConfiguration v = nothing
-requestAsks kind.GetHubDescriptor v = nothing
-requestAsks kind.GetHubStatus v = nothing
-requestAsks kind.GetPortStatus v = nothing
-requestAsks kind.ClearHubFeature v = nothing
-requestAsks kind.ClearPortFeature v = nothing
-requestAsks kind.SetPortFeature v = nothing
-requestAsks kind.ClearTTBuffer v = clears (keyIn v)
-requestAsks kind.ResetTT v = empties
+-- a request's lane, kind and wValue
+abbrev pub requestAsks : Lane → Kind → ℕ → Asks
+requestAsks z kind.Unknown v = nothing
+requestAsks z kind.SetConfiguration v = empties
+requestAsks z kind.GetConfiguration v = nothing
+requestAsks z kind.GetHubDescriptor v = nothing
+requestAsks z kind.GetHubStatus v = nothing
+requestAsks z kind.GetPortStatus v = nothing
+requestAsks z kind.ClearHubFeature v = nothing
+requestAsks z kind.ClearPortFeature v = nothing
+requestAsks z kind.SetPortFeature v = nothing
+requestAsks z kind.ClearTTBuffer v = clears (keyed z (pipeIn v))
+requestAsks z kind.ResetTT v = resets z
 
 unfoldable pub asks : Call → Asks
-asks (Control s room) = requestAsks (kindOf (setupOf s .requesttype) (setupOf s .code)) (setupOf s .value)
-asks (Poll room) = nothing
-asks (Start p t f g a e l) = starts (keyOf a e (directionOf (pidFrom p)))
-asks (Complete a e d room) = completes (keyOf a e (directionFrom d))
+asks (Control z s room) = requestAsks (laneFrom z) (kindOf (setupOf s .requesttype) (setupOf s .code)) (setupOf s .value)
+asks (Poll z room) = nothing
+asks (Start z p t f g a e l) = starts (keyOf (laneFrom z) a e (directionOf (pidFrom p)))
+asks (Complete z a e d room) = completes (keyOf (laneFrom z) a e (directionFrom d))
 asks (Launch room) = launches
 asks (Deliver r l) = delivers (resultFrom r) l
 asks (LineEvent e n) = nothing
@@ -70,7 +73,7 @@ asks BusReset = empties
 
 -- the key that a launch answered 1 gives
 abbrev pub answerKey : Answer → Key
-answerKey a = keyOf (a .address) (a .endpoint) (directionFrom (a .direction))
+answerKey a = keyOf (laneFrom (a .lane)) (a .address) (a .endpoint) (directionFrom (a .direction))
 
 -- ---- open and closed keys
 
@@ -80,8 +83,8 @@ isDone a = eqb (a .number) 0
 abbrev pub isResult : Answer → Bool
 isResult a = eqb (a .number) 1 || eqb (a .number) 9
 
--- A start-split answered 0 opens its key. A complete-split answered 1 or 9 and ClearTTBuffer answered 0 close their key; bus reset, and
--- ResetTT or SetConfiguration answered 0, close all.
+-- A start-split answered 0 opens its key. A complete-split answered 1 or 9 and ClearTTBuffer answered 0 close their key; ResetTT
+-- answered 0 closes its lane's keys; bus reset, and SetConfiguration answered 0, close all.
 unfoldable pub openAfter : Asks → Answer → Key → Bool → Bool
 openAfter nothing a k o = o
 openAfter (starts k′) a k o = (isDone a && sameKey k′ k) || o
@@ -89,6 +92,7 @@ openAfter (completes k′) a k o = not (isResult a && sameKey k′ k) && o
 openAfter launches a k o = o
 openAfter (delivers r l) a k o = o
 openAfter (clears k′) a k o = not (isDone a && sameKey k′ k) && o
+openAfter (resets z) a k o = not (isDone a && sameLane (k .lane) z) && o
 openAfter empties a k o = not (isDone a) && o
 
 -- Keys start closed.
@@ -104,6 +108,7 @@ stores (completes k′) a k o = false
 stores launches a k o = false
 stores (delivers r l) a k o = false
 stores (clears k′) a k o = false
+stores (resets z) a k o = false
 stores empties a k o = false
 
 -- the start-split last stored under k
@@ -125,6 +130,7 @@ forAfter (completes k) a h l = l
 forAfter launches a h l = cond (eqb (a .number) 1) (some (record { key = answerKey a; place = lastStored h (answerKey a) })) l
 forAfter (delivers r x) a h l = l
 forAfter (clears k) a h l = l
+forAfter (resets z) a h l = l
 forAfter empties a h l = l
 
 -- what the last launch answered 1 was for; a delivery is for that
@@ -154,6 +160,7 @@ dataOf (completes k) a = []
 dataOf launches a = []
 dataOf (delivers r l) a = cond (isDone a && isData r) (record { pid = resultPid r; bytes = l } ∷ []) []
 dataOf (clears k) a = []
+dataOf (resets z) a = []
 dataOf empties a = []
 
 -- the data deliveries answered 0 for the start-split s

@@ -1,11 +1,16 @@
 pub mod History
 pub mod Order
 pub mod Machine
+pub mod Tally
+pub mod Share
 pub mod Demand2
 pub mod Demand3
 pub mod ErrorReports
 pub mod Refusals
+pub mod Altered
 pub mod Mistakes
+pub mod TallyMistakes
+pub mod LaneMistakes
 pub mod RefusalMistakes
 pub mod ReportMistakes
 pub mod EmptyPrograms

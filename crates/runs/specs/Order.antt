@@ -7,9 +7,30 @@ use mathlib.Core.List.{List, [], _∷_}
 use mathlib.Core.Bool.{Bool, true, false, cond, not, _&&_, _||_}
 use lib.ListN.{length}
 use lib.Dec.{eqb}
-use Rattle.hub.specs.Call.{Call, Start, Answer}
-use Rattle.runs.specs.History.{Event, History, Asks, nothing, starts, completes, launches, delivers, clears, empties, asks, isDone, isOpen, stores, lastStored, lastFor, isAt, isFor}
+use Rattle.buffer.specs.declared.Lane.{Lane}
+use Rattle.buffer.specs.Key.{sameLane}
+use Rattle.numbers.specs.Named.{laneFrom}
+use Rattle.hub.specs.Call.{Call, Control, Poll, Start, Complete, Launch, Deliver, Event as LineEvent, Tick, BusReset, Answer}
+use Rattle.runs.specs.History.{Event, History, Asks, nothing, starts, completes, launches, delivers, clears, resets, empties, asks, isDone, isOpen, stores, lastStored, lastFor, isAt, isFor}
 use Rattle.runs.specs.Machine.{Machine, run}
+
+-- the call with s calls before it
+unfoldable pub callAt : History → ℕ → Option Call
+callAt [] s = none
+callAt (e ∷ h) s = cond (eqb s (length h)) (some (e .call)) (callAt h s)
+
+-- it is a start-split of the lane
+abbrev pub isFrom : Lane → Option Call → Bool
+isFrom l none = false
+isFrom l (some (Control z s room)) = false
+isFrom l (some (Poll z room)) = false
+isFrom l (some (Start z p t f g a e x)) = sameLane (laneFrom z) l
+isFrom l (some (Complete z a e d room)) = false
+isFrom l (some (Launch room)) = false
+isFrom l (some (Deliver r x)) = false
+isFrom l (some (LineEvent e n)) = false
+isFrom l (some Tick) = false
+isFrom l (some BusReset) = false
 
 -- whether the start-split s is pending after a call, where w says whether it was before
 unfoldable pub pendingAfter : Asks → Answer → History → ℕ → Bool → Bool
@@ -22,23 +43,19 @@ pendingAfter launches a h s w = w
 pendingAfter (delivers r l) a h s w = not (isDone a && isFor (lastFor h) s) && w
 -- its buffer is emptied
 pendingAfter (clears k) a h s w = not (isDone a && isAt (lastStored h k) s) && w
+pendingAfter (resets z) a h s w = not (isDone a && isFrom z (callAt h s)) && w
 pendingAfter empties a h s w = not (isDone a) && w
 
 unfoldable pub isPendingAt : History → ℕ → Bool
 isPendingAt [] s = false
 isPendingAt (e ∷ h) s = pendingAfter (asks (e .call)) (e .answer) h s (isPendingAt h s)
 
--- the call with s calls before it
-unfoldable pub callAt : History → ℕ → Option Call
-callAt [] s = none
-callAt (e ∷ h) s = cond (eqb s (length h)) (some (e .call)) (callAt h s)
-
 -- the answer a gives key, PID, type, flag, toggle and payload of the earliest start-split that is pending
 pub record Earliest (a : Answer) (h : History) : Type 0 where
   pub place : ℕ
   pub pending : isPendingAt h place ≡ true
   pub earliest : (s : ℕ) → isPendingAt h s ≡ true → place ≤ s
-  pub gives : callAt h place ≡ some (Start (a .pid) (a .transfer) (a .lowspeed) (a .toggle) (a .address) (a .endpoint) (a .bytes))
+  pub gives : callAt h place ≡ some (Start (a .lane) (a .pid) (a .transfer) (a .lowspeed) (a .toggle) (a .address) (a .endpoint) (a .bytes))
 
 abbrev pub NonePending : History → Type 0
 NonePending h = (s : ℕ) → isPendingAt h s ≡ false
@@ -50,6 +67,7 @@ Ordered (completes k) a h = Unit {0}
 Ordered launches a h = (a .number ≡ 1 → Earliest a h) × (a .number ≡ 3 → NonePending h)
 Ordered (delivers r l) a h = Unit {0}
 Ordered (clears k) a h = Unit {0}
+Ordered (resets z) a h = Unit {0}
 Ordered empties a h = Unit {0}
 
 -- each of the events es, which came after h

@@ -20,7 +20,8 @@ use Rattle.buffer.specs.Buffer.{holds, isPending, isFree}
 use Rattle.translator.specs.declared.LowSide.{LowSide}
 use Rattle.translator.specs.declared.LowSide.the-variants.{Idle, Running, Abandoned}
 use Rattle.translator.specs.Translator.{at}
-use Rattle.numbers.specs.Named.{resultFrom, eventFrom}
+use Rattle.translator.specs.Limit.{AtLimit, NoRepeat}
+use Rattle.numbers.specs.Named.{resultFrom, eventFrom, laneFrom}
 use Rattle.numbers.specs.Split.{splitFrom, keyFrom}
 use Rattle.request.specs.declared.Fault.{Fault}
 use Rattle.request.specs.declared.Request.{Request}
@@ -74,10 +75,10 @@ slotAt h i = at (h .translator .buffers) i .slot
 
 -- 5 silent, hub unconfigured. On an unconfigured hub poll, launch, deliver and both splits answer 5; control requests never do.
 abbrev pub Silent : Hub → Call → Type 0
-Silent h (Control s room) = ⊥
-Silent h (Poll room) = h .configured ≡ false
-Silent h (Start p t f g a e l) = h .configured ≡ false
-Silent h (Complete a e d room) = h .configured ≡ false
+Silent h (Control z s room) = ⊥
+Silent h (Poll z room) = h .configured ≡ false
+Silent h (Start z p t f g a e l) = h .configured ≡ false
+Silent h (Complete z a e d room) = h .configured ≡ false
 Silent h (Launch room) = h .configured ≡ false
 Silent h (Deliver r l) = h .configured ≡ false
 Silent h (Event e n) = ⊥
@@ -105,10 +106,10 @@ Untaken h r Abandoned = ⊥
 
 -- 8 not in this state
 abbrev pub Misplaced : Hub → Call → Type 0
-Misplaced h (Control s room) = ⊥
-Misplaced h (Poll room) = ⊥
-Misplaced h (Start p t f g a e l) = ⊥
-Misplaced h (Complete a e d room) = ⊥
+Misplaced h (Control z s room) = ⊥
+Misplaced h (Poll z room) = ⊥
+Misplaced h (Start z p t f g a e l) = ⊥
+Misplaced h (Complete z a e d room) = ⊥
 -- Launch: 8 if the low side is occupied.
 Misplaced h (Launch room) = Occupied (h .translator .low)
 -- Deliver: 8 if none runs or the result doesn't suit the PID.
@@ -131,11 +132,11 @@ Unserved on r = IsWrong r ⊎ ((on ≡ false) × (servedAlways r ≡ false))
 -- 2 STALL
 abbrev pub Stalled : Hub → Call → Type 0
 -- Wrong fields inside setup bytes, a port number included, are 2.
-Stalled h (Control s room) = Unserved (h .configured) (requestOf (h .identity .ports) s)
-Stalled h (Poll room) = ⊥
-Stalled h (Start p t f g a e l) = ⊥
+Stalled h (Control z s room) = Unserved (h .configured) (requestOf (h .identity .ports) s)
+Stalled h (Poll z room) = ⊥
+Stalled h (Start z p t f g a e l) = ⊥
 -- Complete-split carries a key alone: no match, 2.
-Stalled h (Complete a e d room) = (i : ℕ) → holds (keyFrom a e d) (slotAt h i) ≡ false
+Stalled h (Complete z a e d room) = (i : ℕ) → holds (keyFrom z a e d) (slotAt h i) ≡ false
 Stalled h (Launch room) = ⊥
 Stalled h (Deliver r l) = ⊥
 Stalled h (Event e n) = ⊥
@@ -148,12 +149,15 @@ NoneInUse f h = (i : ℕ) → i < h .translator .count → f (slotAt h i) ≡ fa
 
 -- 3 nothing to give, or no buffer (NAK)
 abbrev pub NothingToGive : Hub → Call → Type 0
-NothingToGive h (Control s room) = ⊥
+NothingToGive h (Control z s room) = ⊥
 -- Poll: answer 3 if no change bit is set.
-NothingToGive h (Poll room) = (m : PortNumber) → Among (h .identity .ports) m → hasChange (portAt (h .ports) m .changes) ≡ false
--- Start-split: no key match, the lowest-numbered empty or old one; none, 3.
-NothingToGive h (Start p t f g a e l) = NoneInUse (holds (keyOf (splitFrom p t f g a e))) h × NoneInUse isFree h
-NothingToGive h (Complete a e d room) = ⊥
+NothingToGive h (Poll z room) = (m : PortNumber) → Among (h .identity .ports) m → hasChange (portAt (h .ports) m .changes) ≡ false
+-- Start-split: no key match, the lowest-numbered empty or old one; none, 3. A start-split whose storing would pass the limit, in its own
+-- old buffer too, is answer 3; a repeat of a key held pending or ready is not.
+NothingToGive h (Start z p t f g a e l) =
+    NoRepeat (keyOf (splitFrom z p t f g a e)) (h .translator)
+    × (AtLimit (laneFrom z) (h .translator) ⊎ (NoneInUse (holds (keyOf (splitFrom z p t f g a e))) h × NoneInUse isFree h))
+NothingToGive h (Complete z a e d room) = ⊥
 -- Launch: 3 if none is pending.
 NothingToGive h (Launch room) = (i : ℕ) → isPending (slotAt h i) ≡ false
 NothingToGive h (Deliver r l) = ⊥
@@ -169,11 +173,11 @@ pub record Awaited (h : Hub) (k : Key) : Type 0 where
 
 -- 4 NYET
 abbrev pub NotYet : Hub → Call → Type 0
-NotYet h (Control s room) = ⊥
-NotYet h (Poll room) = ⊥
-NotYet h (Start p t f g a e l) = ⊥
+NotYet h (Control z s room) = ⊥
+NotYet h (Poll z room) = ⊥
+NotYet h (Start z p t f g a e l) = ⊥
 -- Complete-split carries a key alone: pending, 4.
-NotYet h (Complete a e d room) = Awaited h (keyFrom a e d)
+NotYet h (Complete z a e d room) = Awaited h (keyFrom z a e d)
 NotYet h (Launch room) = ⊥
 NotYet h (Deliver r l) = ⊥
 NotYet h (Event e n) = ⊥

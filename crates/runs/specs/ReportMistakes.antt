@@ -12,14 +12,14 @@ use Rattle.hub.specs.Hub.{withPortAt}
 use Rattle.hub.specs.Call.{Call, Control, Poll, Start, Complete, Launch, Deliver, Event, Tick, BusReset, Outcome, plain}
 use Rattle.hub.specs.Step.{served}
 use Rattle.runs.specs.Machine.{Machine, ruled}
-use Rattle.runs.specs.Mistakes.{checked}
+use Rattle.runs.specs.Altered.{checked}
 use Rattle.runs.specs.ErrorReports.{ErrorReports}
 
 abbrev pub eventsBy : (Port → Input → Port) → Hub → Call → Outcome
-eventsBy rule h (Control s room) = served h (Control s room)
-eventsBy rule h (Poll room) = served h (Poll room)
-eventsBy rule h (Start p t f g a e l) = served h (Start p t f g a e l)
-eventsBy rule h (Complete a e d room) = served h (Complete a e d room)
+eventsBy rule h (Control z s room) = served h (Control z s room)
+eventsBy rule h (Poll z room) = served h (Poll z room)
+eventsBy rule h (Start z p t f g a e l) = served h (Start z p t f g a e l)
+eventsBy rule h (Complete z a e d room) = served h (Complete z a e d room)
 eventsBy rule h (Launch room) = served h (Launch room)
 eventsBy rule h (Deliver r l) = served h (Deliver r l)
 eventsBy rule h (Event e n) =

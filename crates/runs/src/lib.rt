@@ -10,6 +10,10 @@ ghost use Rattle.runs.specs.Order.{LaunchOrder};
 ghost use Rattle.runs.specs.ErrorReports.{ErrorReports};
 ghost use Rattle.runs.specs.ReportMistakes.{ReportMistakesShutOut};
 ghost use Rattle.runs.specs.Mistakes.{MistakesShutOut};
+ghost use Rattle.runs.specs.Tally.{activeIn, TallyHolds};
+ghost use Rattle.runs.specs.Share.{LaneShare};
+ghost use Rattle.runs.specs.LaneMistakes.{LaneMistakesShutOut};
+ghost use Rattle.runs.specs.TallyMistakes.{TallyMistakesShutOut};
 
 // Which calls are refused, with which number.
 fn refusals()
@@ -51,4 +55,24 @@ fn report_mistakes_shut_out()
 // Rules with one mistake in the translator break demand 3 or the order.
 fn mistakes_shut_out()
     ensures { λ _. ⌜ MistakesShutOut ⌝ }
+{}
+
+// Start-splits stored are those answered, those emptied before that, and those pending or ready now.
+fn tally_holds()
+    ensures { λ _. ⌜ TallyHolds rules activeIn ⌝ }
+{}
+
+// Rules with one mistake break it.
+fn tally_mistakes_shut_out()
+    ensures { λ _. ⌜ TallyMistakesShutOut ⌝ }
+{}
+
+// A lane holds at most B minus 1 buffers, and one that holds none is never answered 3.
+fn lane_share()
+    ensures { λ _. ⌜ LaneShare rules ⌝ }
+{}
+
+// Rules with one mistake about lanes break the claims.
+fn lane_mistakes_shut_out()
+    ensures { λ _. ⌜ LaneMistakesShutOut ⌝ }
 {}

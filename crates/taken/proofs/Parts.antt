@@ -161,7 +161,7 @@ module _ (l : List ℕ) where
   abbrev splitTests : Bool
   splitTests =
       (isPid (getD l 1 0) && (isType (getD l 2 0) && typeFits (pidFrom (getD l 1 0)) (typeFrom (getD l 2 0))))
-      && (ltb (getD l 3 0) 4 && (ltb (getD l 4 0) 128 && ltb (getD l 5 0) 16))
+      && (ltb (getD l 3 0) 8 && (ltb (getD l 4 0) 128 && ltb (getD l 5 0) 16))
 
   abbrev suitTests : Bool
   suitTests = suits (pidFrom (getD l 1 0)) (resultFrom (getD l 6 0)) && resultLength (resultFrom (getD l 6 0)) (getD l 7 0)
@@ -175,10 +175,10 @@ module _ (l : List ℕ) where
       ≡ splitTests && heldTests s
 
   each : (r x : Bool)
-      → ((isPid (getD l 1 0) && isType (getD l 2 0)) && (ltb (getD l 3 0) 4 && r)) && ((numbersFit (heldSplit l)) && x) ≡ splitTests && (r && x)
+      → ((isPid (getD l 1 0) && isType (getD l 2 0)) && (ltb (getD l 3 0) 8 && r)) && ((numbersFit (heldSplit l)) && x) ≡ splitTests && (r && x)
   unfolding heldSplit numbersFit
   each r x =
-      regroup (isPid (getD l 1 0)) (isType (getD l 2 0)) (typeFits (pidFrom (getD l 1 0)) (typeFrom (getD l 2 0))) (ltb (getD l 3 0) 4)
+      regroup (isPid (getD l 1 0)) (isType (getD l 2 0)) (typeFits (pidFrom (getD l 1 0)) (typeFrom (getD l 2 0))) (ltb (getD l 3 0) 8)
       (ltb (getD l 4 0) 128 && ltb (getD l 5 0) 16) r x
 
   tested : (s : ℕ) → ¬ (s ≡ 0) → Tested s

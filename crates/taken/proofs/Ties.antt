@@ -1,27 +1,29 @@
 -- What the tests of the buffers among each other come to, over plain values. Assumes nothing.
 use mathlib.Core.Path.{_≡_, refl, sym, ap, _∙_}
 use mathlib.Core.List.{List, [], _∷_, _++_}
-use mathlib.Core.Bool.{Bool, true, false, cond, not, false≢true, _&&_, _||_, or-false, or-assoc, and-eq-true-iff}
-use Prim.Native.Nat.{ℕ, _*_, _≤_, _<_}
-use native.Mathlib.Nat.{add-zero}
+use mathlib.Core.Bool.{Bool, true, false, cond, not, false≢true, _&&_, _||_, and-false, or-false, or-assoc, and-eq-true-iff}
+use Prim.Native.Nat.{ℕ, zero, suc, _*_, _≤_, _<_}
+use native.Mathlib.Nat.{add-zero, not-suc-le-zero}
 use native.Mathlib.Omega.{arith}
 use lib.ListN.{length, getD, take, drop, length-map, List·getD-map, List·getD-append}
 use lib.Seq.{getD-take, getD-drop}
 use lib.Dec.{eqb, leb, ltb}
 use borrow.Author.Tests.{eq-eqb, ne-eqb, ltb-true, leb-true}
+use Rattle.buffer.specs.declared.Lane.{Lane}
+use Rattle.buffer.specs.declared.Lane.the-variants.{Zero, One}
 use Rattle.buffer.specs.declared.Direction.the-variants as direction
 use Rattle.buffer.specs.declared.Pid.the-variants as pid
 use Rattle.buffer.specs.declared.StartSplit.{StartSplit}
 use Rattle.buffer.specs.declared.Slot.{Slot}
 use Rattle.buffer.specs.declared.Slot.the-variants.{Empty, Pending, Ready, Old}
 use Rattle.buffer.specs.declared.Buffer.{Buffer}
-use Rattle.buffer.specs.Key.{directionOf, keyOf, sameDirection, sameKey}
-use Rattle.buffer.specs.Buffer.{vacant, isPending}
+use Rattle.buffer.specs.Key.{directionOf, keyOf, sameLane, sameDirection, sameKey}
+use Rattle.buffer.specs.Buffer.{vacant, isPending, activeIn}
 use Rattle.numbers.specs.Named.{pidFrom, resultFrom}
 use Rattle.translator.proofs.Lists.{four}
-use Rattle.taken.specs.Rows.{parts}
+use Rattle.taken.specs.Rows.{parts, every}
 use Rattle.translator.specs.Slots.{slotsIn}
-use Rattle.taken.specs.Read.{heldSplit, slotNamed, slotOf, bufferOf, noBuffers, buffersOf, clash, clashing, runs}
+use Rattle.taken.specs.Read.{laneIn, filledBy, crowded, heldSplit, slotNamed, slotOf, bufferOf, noBuffers, buffersOf, clash, clashing, runs}
 use Rattle.taken.proofs.Rows.{All, parts-length, parts-at, row-spare, row-long}
 use Rattle.taken.proofs.Parts.{three}
 
@@ -101,6 +103,36 @@ module _ (x y : List ℕ) where
       (three (Clash 2) (or-false key) (or-false key) (or-false key) (getD y 0 0) (v .0) (v .1))
       (three (Clash 3) (or-false key) (or-false key) (or-false key) (getD y 0 0) (v .0) (v .1))
       (getD x 0 0) (u .0) (u .1)
+
+-- ---- pending or ready under a key of a lane
+
+pub filled-is : (z : Lane) (l : List ℕ) {r e s : Bool} {w : Lane} → r ≡ (e && s) → e ≡ (eqb (getD l 0 0) 1 || eqb (getD l 0 0) 2) → s ≡ sameLane w z
+    → w ≡ laneIn (getD l 3 0) → r ≡ filledBy z l
+unfolding filledBy slotOf heldSplit
+filled-is z l a b c d = rw (a, b, c, d) (go (heldSplit l) (eqb (getD l 0 0) 1) (eqb (getD l 0 0) 2) (eqb (getD l 0 0) 3))
+  where
+    go : (s : StartSplit) (x y w : Bool)
+        → ((x || y) && sameLane (s .lane) z) ≡ activeIn z (cond x (Pending s (getD l 6 0)) (cond y (Ready s (resultFrom (getD l 6 0))) (cond w (Old s (resultFrom (getD l 6 0))) Empty)))
+    go s true y w = refl
+    go s false true w = refl
+    go s false false true = refl
+    go s false false false = refl
+
+-- a lane that holds every buffer holds the first
+pub first-crowds : (n : ℕ) (l : List ℕ) → 2 ≤ n → every (filledBy (laneIn (getD l 3 0))) 72 n l ≡ crowded n l
+unfolding every
+first-crowds zero l many = absurd (not-suc-le-zero many)
+first-crowds (suc n) l many = go (laneIn (getD l 3 0)) (ap laneIn (getD-take 72 l 3 0 (omega arith)))
+  where
+    first : (z : Lane) → ((eqb (getD (take 72 l) 0 0) 1 || eqb (getD (take 72 l) 0 0) 2) && sameLane (laneIn (getD (take 72 l) 3 0)) z) ≡ filledBy z (take 72 l)
+    first z = filled-is z (take 72 l) refl refl refl refl
+
+    none : (y z : Lane) → laneIn (getD (take 72 l) 3 0) ≡ y → sameLane y z ≡ false → (filledBy z (take 72 l) && every (filledBy z) 72 n (drop 72 l)) ≡ false
+    none y z e d = rw (sym (first z), e, d, and-false (eqb (getD (take 72 l) 0 0) 1 || eqb (getD (take 72 l) 0 0) 2))
+
+    go : (z : Lane) → laneIn (getD (take 72 l) 3 0) ≡ z → (filledBy z (take 72 l) && every (filledBy z) 72 n (drop 72 l)) ≡ crowded (suc n) l
+    go Zero e = rw (none Zero One e refl) (sym (or-false _))
+    go One e = rw (none One Zero e refl)
 
 -- ---- the slots of a row of buffers
 

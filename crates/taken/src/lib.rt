@@ -4,14 +4,15 @@ ghost use mathlib.Core.Bool.{_&&_, _||_, not, cond};
 ghost use Prim.Native.Nat.{_+_, _*_, _^_, _≤_};
 ghost use lib.Dec.{eqb, leb, ltb};
 ghost use lib.ListN.{length, getD, take, drop};
-ghost use Rattle.buffer.specs.Key.{directionOf, keyOf, sameDirection, sameKey};
+ghost use Rattle.buffer.specs.Key.{directionOf, keyOf, sameLane, sameDirection, sameKey};
 ghost use Rattle.buffer.specs.Lengths.{typeFits, startLength, resultLength, suits};
 ghost use Rattle.numbers.specs.Named.{isPid, pidFrom, isType, typeFrom, isResult, resultFrom};
 ghost use Rattle.hub.specs.Hub.{newFits};
 ghost use Rattle.taken.specs.Rows.{every, blank};
 ghost use Rattle.translator.specs.Slots.{slotsIn};
-ghost use Rattle.taken.specs.Read.{heldSplit, slotOf, buffersOf, stateFits, portFits, bufferFits};
-ghost use Rattle.taken.specs.Read.{clash, clashing, runs, lowFits, headFits, sized, rowsFit, accepts};
+ghost use Rattle.taken.specs.Read.{laneIn, heldSplit, slotOf, buffersOf, stateFits, portFits, bufferFits};
+ghost use Rattle.taken.specs.Read.{clash, clashing, filledBy, crowded, runs, lowFits, headFits, sized, rowsFit, accepts};
+use buffer::Lane;
 
 // ---- one port, 4 bytes
 
@@ -102,9 +103,9 @@ fn names_fit(p: u8, t: u8) -> bool
 
 // A start-split's flags, device address and endpoint.
 fn split_fits(f: u8, a: u8, e: u8) -> bool
-    ensures { λ r. ⌜ r ≡ ltb f 4 && (ltb a 128 && ltb e 16) ⌝ }
+    ensures { λ r. ⌜ r ≡ ltb f 8 && (ltb a 128 && ltb e 16) ⌝ }
 {
-    logic::both(f < 4, logic::both(a < 128, e < 16))
+    logic::both(f < 8, logic::both(a < 128, e < 16))
 }
 
 fn start_length(p: u8, len: u8) -> bool
@@ -200,6 +201,18 @@ fn same_way(p: u8, q: u8) -> bool
     if p == 9 { q == 9 } else { q != 9 }
 }
 
+// The lane of a start-split with these flags.
+pub fn lane_in(f: u8) -> Lane
+    ensures { λ r. ⌜ r ≡ laneIn f ⌝ }
+{
+    let quarter = f / 2 / 2;
+    if quarter % 2 == 1 {
+        Lane::One
+    } else {
+        Lane::Zero
+    }
+}
+
 fn same_key(x: &[u8], y: &[u8]) -> bool
     requires { ⌜ (length (now x) ≡ 72) × (length (now y) ≡ 72) ⌝ }
     ensures { λ r. ⌜ r ≡ sameKey (keyOf (heldSplit (now (x .entry)))) (keyOf (heldSplit (now (y .entry)))) ⌝ }
@@ -207,7 +220,11 @@ fn same_key(x: &[u8], y: &[u8]) -> bool
     if x[4] != y[4] {
         return false;
     }
-    logic::both(x[5] == y[5], same_way(x[1], y[1]))
+    let lane = lane_in(x[3]);
+    logic::both(
+        lane.same(lane_in(y[3])),
+        logic::both(x[5] == y[5], same_way(x[1], y[1])),
+    )
 }
 
 // Whether two buffers are pending at one place.
@@ -272,6 +289,40 @@ fn clashing(b: &[u8], n: usize) -> bool
     )
 }
 
+// Whether a buffer is pending or ready under a key of the lane.
+fn filled_by(b: &[u8], lane: Lane) -> bool
+    requires { ⌜ length (now b) ≡ 72 ⌝ }
+    ensures { λ r. ⌜ r ≡ filledBy lane (now (b .entry)) ⌝ }
+{
+    let held = lane_in(b[3]);
+    logic::both(logic::either(b[0] == 1, b[0] == 2), held.same(lane))
+}
+
+// Whether the lane holds every buffer pending or ready.
+fn filled(b: &[u8], n: usize, lane: Lane) -> bool
+    requires { ⌜ (n ≤ 4) × (length (now b) ≡ n * 72) ⌝ }
+    ensures { λ r. ⌜ r ≡ every (filledBy lane) 72 n (now (b .entry)) ⌝ }
+{
+    let mut i: usize = 0;
+    while i < n {
+        let at = i * 72;
+        let end = at + 72;
+        if !filled_by(&b[at..end], lane) {
+            return false;
+        }
+        i += 1;
+    }
+    true
+}
+
+// A lane that holds every buffer holds the first, so that only its lane is looked at.
+fn crowded(b: &[u8], n: usize) -> bool
+    requires { ⌜ (2 ≤ n) × (n ≤ 4) × (length (now b) ≡ n * 72) ⌝ }
+    ensures { λ r. ⌜ r ≡ crowded n (now (b .entry)) ⌝ }
+{
+    filled(b, n, lane_in(b[3]))
+}
+
 // A running buffer is pending.
 fn runs(b: &[u8], n: usize, low: u8, running: u8) -> bool
     requires { ⌜ (n ≤ 4) × (length (now b) ≡ n * 72) ⌝ }
@@ -291,12 +342,15 @@ fn runs(b: &[u8], n: usize, low: u8, running: u8) -> bool
 // Each buffer for itself, then all among each other.
 fn buffers_agree(b: &[u8], n: usize, low: u8, running: u8) -> bool
     requires { ⌜ (2 ≤ n) × (n ≤ 4) × (length (now b) ≡ n * 72) ⌝ }
-    ensures { λ r. ⌜ r ≡ every bufferFits 72 n (now (b .entry)) && (not (clashing (slotsIn (buffersOf n (now (b .entry))))) && runs (slotsIn (buffersOf n (now (b .entry)))) low running) ⌝ }
+    ensures { λ r. ⌜ r ≡ every bufferFits 72 n (now (b .entry)) && (not (clashing (slotsIn (buffersOf n (now (b .entry))))) && (not (crowded n (now (b .entry))) && runs (slotsIn (buffersOf n (now (b .entry)))) low running)) ⌝ }
 {
     if !buffers_fit(b, n) {
         return false;
     }
     if clashing(b, n) {
+        return false;
+    }
+    if crowded(b, n) {
         return false;
     }
     runs(b, n, low, running)

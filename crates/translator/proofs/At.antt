@@ -7,13 +7,15 @@ use mathlib.Core.List.{List, [], _∷_, map}
 use borrow.Author.Tests.{eqb-true}
 use lib.ListN.{length, set, length-map}
 use lib.Seq.{getD-set-same, getD-set-other}
+use Rattle.buffer.specs.declared.Lane.{Lane}
 use Rattle.buffer.specs.declared.Key.{Key}
 use Rattle.buffer.specs.declared.Slot.{Slot}
 use Rattle.buffer.specs.declared.Slot.the-variants.{Empty, Pending, Ready, Old}
 use Rattle.buffer.specs.declared.Buffer.{Buffer}
-use Rattle.buffer.specs.Buffer.{vacant, isPending, holds}
+use Rattle.buffer.specs.Buffer.{vacant, isPending, holds, activeIn}
 use Rattle.translator.specs.Translator.{at}
 use Rattle.translator.specs.Order.{atPlace, reranked, rankedIn, ranked}
+use Rattle.translator.specs.ResetLane.{withoutLane}
 use Rattle.translator.specs.Valid.{Apart}
 
 -- what passes a test that an empty buffer fails is one of the list
@@ -43,25 +45,35 @@ module _ (bs : List Buffer) (i : ℕ) (b : Buffer) (here : i < length bs) where
       (λ e. at-cases (λ (y : Buffer). f (b .slot) ≡ true → f (y .slot) ≡ true → j ≡ l) l (λ g p q. e ∙ sym g) (λ ng p q. e ∙ sym (only p l q)))
       (λ ne. at-cases (λ (y : Buffer). f (at bs j .slot) ≡ true → f (y .slot) ≡ true → j ≡ l) l (λ g p q. only q j p ∙ sym g) (λ ng p q. apart j l p q))
 
--- a test that only looks at the key is not changed by ranks
+-- a buffer by its number, where each was changed and an empty one stays as it is
+at-map : (g : Buffer → Buffer) → g vacant ≡ vacant → (bs : List Buffer) (i : ℕ) → at (map g bs) i ≡ g (at bs i)
+at-map g e [] i = sym e
+at-map g e (b ∷ bs) zero = refl
+at-map g e (b ∷ bs) (suc i) = at-map g e bs i
+
+pub at-without-lane : (l : Lane) (bs : List Buffer) (i : ℕ) → at (map (withoutLane l) bs) i ≡ withoutLane l (at bs i)
+at-without-lane l = at-map (withoutLane l) refl
+
 pub at-ranked : (bs : List Buffer) (i : ℕ) → at (ranked bs) i ≡ rankedIn bs (at bs i)
 unfolding ranked
-at-ranked bs i = go bs i
-  where
-    go : (cs : List Buffer) (j : ℕ) → at (map (rankedIn bs) cs) j ≡ rankedIn bs (at cs j)
-    go [] j = refl
-    go (c ∷ cs) zero = refl
-    go (c ∷ cs) (suc j) = go cs j
+at-ranked bs = at-map (rankedIn bs) refl bs
 
 pub length-ranked : (bs : List Buffer) → length (ranked bs) ≡ length bs
 unfolding ranked
 length-ranked bs = length-map bs (rankedIn bs)
 
+-- a test that only looks at the key is not changed by ranks
 pub holds-reranked : (bs : List Buffer) (k : Key) (s : Slot) → holds k (reranked bs s) ≡ holds k s
 holds-reranked bs k Empty = refl
 holds-reranked bs k (Pending s p) = refl
 holds-reranked bs k (Ready s r) = refl
 holds-reranked bs k (Old s r) = refl
+
+pub active-in-reranked : (bs : List Buffer) (l : Lane) (s : Slot) → activeIn l (reranked bs s) ≡ activeIn l s
+active-in-reranked bs l Empty = refl
+active-in-reranked bs l (Pending s p) = refl
+active-in-reranked bs l (Ready s r) = refl
+active-in-reranked bs l (Old s r) = refl
 
 pub pending-reranked : (bs : List Buffer) (s : Slot) → isPending (reranked bs s) ≡ isPending s
 pending-reranked bs Empty = refl

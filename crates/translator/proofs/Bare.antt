@@ -10,13 +10,14 @@ use Rattle.buffer.specs.declared.Slot.the-variants.{Empty, Pending, Ready, Old}
 use Rattle.buffer.specs.declared.Buffer.{Buffer}
 use Rattle.buffer.specs.declared.BufferNumber.{BufferNumber}
 use Rattle.payload.specs.Payload.{noPayload}
-use Rattle.buffer.specs.Buffer.{isPending}
+use Rattle.buffer.specs.Buffer.{isPending, activeIn}
 use Rattle.translator.specs.declared.Found.{Found}
 use Rattle.translator.specs.declared.Found.the-variants.{At}
 use Rattle.translator.specs.declared.Choice.the-variants.{NoRoom}
 use Rattle.translator.specs.declared.Earliest.the-variants.{NonePending}
 use Rattle.translator.specs.Slots.{slotsIn, bare}
 use Rattle.translator.specs.Search.{later, find, chosen, pass}
+use Rattle.translator.specs.Limit.{permitted}
 use Rattle.translator.specs.Order.{bit, isBefore, tally, waiting, before, reranked, rankedIn, sooner, earliest}
 use Rattle.translator.proofs.Search.{looking, pass-chosen}
 
@@ -46,6 +47,10 @@ tally-bare : (f : Slot → Bool) (bs : List Buffer) → tally f (bare (slotsIn b
 unfolding tally
 tally-bare f = by-slots (tally f) (λ (s : Slot) (n : ℕ). bit (f s) + n) (λ b bs. refl)
 
+tally-first-bare : (f : Slot → Bool) (n : ℕ) (bs : List Buffer) → tally f (take n (bare (slotsIn bs))) ≡ tally f (take n bs)
+unfolding tally
+tally-first-bare f = by-first-slots (tally f) (λ (s : Slot) (n : ℕ). bit (f s) + n) (λ b bs. refl)
+
 pub waiting-bare : (bs : List Buffer) → waiting (bare (slotsIn bs)) ≡ waiting bs
 waiting-bare = tally-bare isPending
 
@@ -64,6 +69,10 @@ pass-bare {C} f c n bs =
 
 pub chosen-bare : (k : Key) (n : ℕ) (bs : List Buffer) → chosen k (take n (bare (slotsIn bs))) ≡ chosen k (take n bs)
 chosen-bare k n bs = sym (pass-chosen k (take n (bare (slotsIn bs)))) ∙ pass-bare (looking k) NoRoom n bs ∙ pass-chosen k (take n bs)
+
+pub permitted-bare : (b : ℕ) (k : Key) (n : ℕ) (bs : List Buffer) → permitted b k (take n (bare (slotsIn bs))) ≡ permitted b k (take n bs)
+unfolding permitted
+permitted-bare b k n bs = rw (chosen-bare k n bs, tally-first-bare (activeIn (k .lane)) n bs)
 
 pub earliest-bare : (n : ℕ) (bs : List Buffer) → earliest (take n (bare (slotsIn bs))) ≡ earliest (take n bs)
 unfolding earliest

@@ -1,5 +1,5 @@
 -- What each call leaves: refusals, the earliest, the last stored, the same answer again, old buffers. Assumes nothing.
-use Prim.Native.Nat.{ℕ, zero, suc, _<_, _≤_, min}
+use Prim.Native.Nat.{ℕ, zero, suc, _+_, _<_, _≤_, min}
 use native.Mathlib.Omega.{arith}
 use mathlib.Core.Path.{_≡_, refl, sym, _∙_, ap, subst}
 use mathlib.Core.List.{List, [], _∷_}
@@ -18,14 +18,14 @@ use Rattle.buffer.specs.declared.Buffer.{Buffer}
 use Rattle.buffer.specs.declared.BufferNumber.{BufferNumber}
 use Rattle.buffer.specs.Key.{keyOf}
 use Rattle.buffer.specs.Lengths.{startFits, resultLength, suits}
-use Rattle.buffer.specs.Buffer.{vacant, isPending, holds}
+use Rattle.buffer.specs.Buffer.{vacant, isPending, isActive, holds}
 use Rattle.translator.specs.declared.LowSide.{LowSide}
 use Rattle.translator.specs.declared.LowSide.the-variants.{Idle, Running, Abandoned}
 use Rattle.translator.specs.declared.Translator.{Translator}
 use Rattle.translator.specs.declared.Found.{Found}
 use Rattle.translator.specs.declared.Found.the-variants.{Nowhere, At}
 use Rattle.translator.specs.declared.Choice.{Choice}
-use Rattle.translator.specs.declared.Choice.the-variants.{NoRoom, Held, Reused, Took}
+use Rattle.translator.specs.declared.Choice.the-variants.{NoRoom, LimitReached, Held, Reused, Took}
 use Rattle.translator.specs.declared.Earliest.{Earliest}
 use Rattle.translator.specs.declared.Earliest.the-variants.{NonePending, Stored}
 use Rattle.translator.specs.declared.StartAnswer.{StartAnswer}
@@ -39,6 +39,8 @@ use Rattle.translator.specs.declared.Launched.{Launched}
 use Rattle.translator.specs.declared.Delivered.{Delivered}
 use Rattle.translator.specs.Translator.{at}
 use Rattle.translator.specs.Search.{later, find, chosen}
+use Rattle.translator.specs.Limit.{heldBy, mayStore, limited, permitted, AtLimit, NoRepeat}
+use Rattle.translator.specs.ResetLane.{resetLane}
 use Rattle.translator.specs.Order.{atPlace, waiting, before, ranked, earliest}
 use Rattle.translator.specs.StartSplit.{stored, startBy, startSplit}
 use Rattle.translator.specs.CompleteSplit.{completed, completeAt, completeSplit}
@@ -46,23 +48,24 @@ use Rattle.translator.specs.Launch.{launched, launchAt, launchBy, launch
 use Rattle.translator.specs.Deliver.{undelivered, delivered, deliverBy, deliver}
 use Rattle.translator.specs.Answers.{isRefusal, startNumber, resultNumber, completeNumber, launchNumber, deliverNumber}
 use Rattle.translator.specs.Valid.{ValidTranslator}
-use Rattle.translator.specs.Claims.{RefusedSame, LaunchesEarliest, Last, StoredLast, SameAgain, OldKept, AbandonedDropped}
-use Rattle.translator.proofs.At.{inside, at-same, at-other, at-ranked, length-ranked, reranked-idle}
-use Rattle.translator.proofs.Finding.{FindSays, find-says, ChosenSays, chosen-says, First, EarliestSays, earliest-says}
+use Rattle.translator.specs.Claims.{RefusedSame, LaunchesEarliest, Last, StoredLast, SameAgain, OldKept, AbandonedDropped, LaneLimit, LaneReset}
+use Rattle.translator.proofs.At.{inside, at-same, at-other, at-ranked, length-ranked, reranked-idle, at-without-lane}
+use Rattle.translator.proofs.Finding.{FindSays, find-says, ChosenSays, chosen-says, PermittedSays, permitted-says, First, EarliestSays, earliest-says}
 use Rattle.translator.proofs.Ranks.{rank-below, ranked-place}
-use Rattle.translator.proofs.Kept.{in-use}
+use Rattle.translator.proofs.Kept.{in-use, may-store, may-not-store, no-repeat}
 
 -- ---- a refused call leaves the translator as it was
 
 start-same : (t : Translator) (s : StartSplit) (l : List ℕ) → isRefusal (startNumber (startSplit t s l .answer)) ≡ true → startSplit t s l .next ≡ t
 unfolding startSplit
-start-same t s l = go (startFits s (length l)) (chosen (keyOf s) (take (t .count) (t .buffers)))
+start-same t s l = go (startFits s (length l)) (permitted (t .count) (keyOf s) (take (t .count) (t .buffers)))
   where
     Same : Started → Type 0
     Same o = isRefusal (startNumber (o .answer)) ≡ true → o .next ≡ t
 
     go : (x : Bool) (c : Choice) → Same (cond x (startBy t s l c) (record { next = t; answer = start.Outside }))
     go true NoRoom e = refl
+    go true LimitReached e = refl
     go true (Held n) e = refl
     go true (Reused n) e = absurd (false≢true e)
     go true (Took n) e = absurd (false≢true e)
@@ -177,22 +180,24 @@ last-stored t s l n here e =
 abbrev pub StartedAs : Translator → StartSplit → List ℕ → StartAnswer → Translator → Type 0
 StartedAs t s l start.Outside u = u ≡ t
 StartedAs t s l (start.Chosen NoRoom) u = u ≡ t
+StartedAs t s l (start.Chosen LimitReached) u = u ≡ t
 StartedAs t s l (start.Chosen (Held n)) u = u ≡ t
 StartedAs t s l (start.Chosen (Reused n)) u = (n .0 < length (t .buffers)) × (u ≡ stored t n s l)
 StartedAs t s l (start.Chosen (Took n)) u = (n .0 < length (t .buffers)) × (u ≡ stored t n s l)
 
 pub started-as : (t : Translator) (s : StartSplit) (l : List ℕ) → StartedAs t s l (startSplit t s l .answer) (startSplit t s l .next)
 unfolding startSplit
-started-as t s l = go (startFits s (length l)) (chosen (keyOf s) (take (t .count) (t .buffers))) (chosen-says (keyOf s) (t .count) (t .buffers))
+started-as t s l = go (startFits s (length l)) (permitted (t .count) (keyOf s) (take (t .count) (t .buffers))) (permitted-says (t .count) (keyOf s) (t .count) (t .buffers))
   where
     As : Started → Type 0
     As o = StartedAs t s l (o .answer) (o .next)
 
-    go : (x : Bool) (c : Choice) → ChosenSays (keyOf s) (t .count) (t .buffers) c → As (cond x (startBy t s l c) (record { next = t; answer = start.Outside }))
+    go : (x : Bool) (c : Choice) → PermittedSays (t .count) (keyOf s) (t .count) (t .buffers) c → As (cond x (startBy t s l c) (record { next = t; answer = start.Outside }))
     go true NoRoom r = refl
+    go true LimitReached r = refl
     go true (Held n) r = refl
-    go true (Reused n) r = (r .found .inside, refl)
-    go true (Took n) r = (r .free .inside, refl)
+    go true (Reused n) r = (r .says .found .inside, refl)
+    go true (Took n) r = (r .says .free .inside, refl)
     go false c r = refl
 
 pub stored-last : StoredLast
@@ -329,6 +334,7 @@ old-start t s o r l i e nr nt = go (startSplit t s l .answer) refl (started-as t
     go : (a : StartAnswer) → startSplit t s l .answer ≡ a → StartedAs t s l a (startSplit t s l .next) → at (startSplit t s l .next .buffers) i ≡ at (t .buffers) i
     go start.Outside f x = ap (λ (u : Translator). at (u .buffers) i) x
     go (start.Chosen NoRoom) f x = ap (λ (u : Translator). at (u .buffers) i) x
+    go (start.Chosen LimitReached) f x = ap (λ (u : Translator). at (u .buffers) i) x
     go (start.Chosen (Held n)) f x = ap (λ (u : Translator). at (u .buffers) i) x
     go (start.Chosen (Reused n)) f x = ap (λ (u : Translator). at (u .buffers) i) (x .1) ∙ other n (x .0) (λ q. nr (rw q f))
     go (start.Chosen (Took n)) f x = ap (λ (u : Translator). at (u .buffers) i) (x .1) ∙ other n (x .0) (λ q. nt (rw q f))
@@ -405,3 +411,92 @@ old-deliver t x l o r i e = go (resultLength x (length l)) (t .low)
 
 pub old-kept : OldKept
 old-kept = record { start = old-start; complete = old-complete; launched = old-launch; delivered = old-deliver }
+
+-- ---- the limit of a lane
+
+-- what a start-split that was answered so says of its lane
+abbrev LimitAs : Translator → StartSplit → StartAnswer → Type 0
+LimitAs t s start.Outside = Unit {0}
+LimitAs t s (start.Chosen NoRoom) = Unit {0}
+LimitAs t s (start.Chosen LimitReached) = AtLimit (s .lane) t × NoRepeat (keyOf s) t
+LimitAs t s (start.Chosen (Held n)) = Unit {0}
+LimitAs t s (start.Chosen (Reused n)) = Unit {0}
+LimitAs t s (start.Chosen (Took n)) = Unit {0}
+
+limit-as : (t : Translator) (s : StartSplit) (l : List ℕ) → ValidTranslator t → LimitAs t s (startSplit t s l .answer)
+unfolding startSplit
+limit-as t s l v = go (startFits s (length l)) (permitted (t .count) (keyOf s) (take (t .count) (t .buffers))) (permitted-says (t .count) (keyOf s) (t .count) (t .buffers))
+  where
+    go : (x : Bool) (c : Choice) → PermittedSays (t .count) (keyOf s) (t .count) (t .buffers) c
+        → LimitAs t s (cond x (startBy t s l c) (record { next = t; answer = start.Outside }) .answer)
+    go true NoRoom r = tt
+    go true LimitReached r = (may-not-store t v (s .lane) (r .full), no-repeat t v (keyOf s) (r .wanted) (r .says) (r .unheld))
+    go true (Held n) r = tt
+    go true (Reused n) r = tt
+    go true (Took n) r = tt
+    go false c r = tt
+
+at-limit : (t : Translator) (s : StartSplit) (l : List ℕ) → ValidTranslator t → startFits s (length l) ≡ true → AtLimit (s .lane) t → NoRepeat (keyOf s) t
+    → startSplit t s l .answer ≡ start.Chosen LimitReached
+unfolding startSplit
+at-limit t s l v fits full none = rw fits (go (permitted (t .count) (keyOf s) (take (t .count) (t .buffers))) (permitted-says (t .count) (keyOf s) (t .count) (t .buffers)))
+  where
+    past : heldBy (s .lane) (t .buffers) + 1 < t .count → ⊥
+    past may = omega (arith, may, full)
+
+    go : (c : Choice) → PermittedSays (t .count) (keyOf s) (t .count) (t .buffers) c → startBy t s l c .answer ≡ start.Chosen LimitReached
+    go NoRoom r = absurd (past (may-store t v (s .lane) (r .may)))
+    go LimitReached r = refl
+    go (Held n) r = absurd (true≢false (sym (r .active) ∙ none (n .0) (r .found .passes)))
+    go (Reused n) r = absurd (past (may-store t v (s .lane) (r .may)))
+    go (Took n) r = absurd (past (may-store t v (s .lane) (r .may)))
+
+repeated : (t : Translator) (s : StartSplit) (l : List ℕ) (n : BufferNumber) → ValidTranslator t → startFits s (length l) ≡ true
+    → holds (keyOf s) (at (t .buffers) (n .0) .slot) ≡ true → isActive (at (t .buffers) (n .0) .slot) ≡ true → startSplit t s l .answer ≡ start.Chosen (Held n)
+unfolding startSplit permitted
+repeated t s l n v fits has active = rw fits (go (mayStore (t .count) (heldBy (s .lane) (take (t .count) (t .buffers)))) (chosen (keyOf s) (take (t .count) (t .buffers))) (chosen-says (keyOf s) (t .count) (t .buffers)))
+  where
+    there : (i : ℕ) → holds (keyOf s) (at (t .buffers) i .slot) ≡ true → i ≡ n .0
+    there i h = v .keys (keyOf s) i (n .0) h has
+
+    missed : ¬ (holds (keyOf s) (at (t .buffers) (n .0) .slot) ≡ false)
+    missed e = true≢false (sym has ∙ e)
+
+    used : n .0 < t .count
+    used = in-use t v (holds (keyOf s)) refl (n .0) has
+
+    listed : n .0 < length (t .buffers)
+    listed = inside (holds (keyOf s)) refl (t .buffers) (n .0) has
+
+    held : (m : BufferNumber) (x : Bool) → m .0 ≡ n .0 → startBy t s l (limited x (Held m)) .answer ≡ start.Chosen (Held n)
+    held m true e = ap (λ (i : ℕ). start.Chosen (Held (record { 0 = i }))) e
+    held m false e = ap (λ (i : ℕ). start.Chosen (Held (record { 0 = i }))) e
+
+    go : (x : Bool) (c : Choice) → ChosenSays (keyOf s) (t .count) (t .buffers) c → startBy t s l (limited x c) .answer ≡ start.Chosen (Held n)
+    go x NoRoom r = absurd (missed (r .none (n .0) used listed))
+    go x LimitReached r = absurd r
+    go x (Held m) r = held m x (there (m .0) (r .found .passes))
+    go x (Reused m) r = absurd (true≢false (sym active ∙ (ap (λ (i : ℕ). isActive (at (t .buffers) i .slot)) (sym (there (m .0) (r .found .passes))) ∙ r .active)))
+    go x (Took m) r = absurd (missed (r .none (n .0) used listed))
+
+pub lane-limit : LaneLimit
+lane-limit =
+    record {
+      reached = λ t s l v e. subst (LimitAs t s) e (limit-as t s l v);
+      refused = at-limit;
+      repeated = repeated;
+    }
+
+-- ---- ResetTT from a lane
+
+pub lane-reset : LaneReset
+unfolding resetLane
+lane-reset =
+    record {
+      empties = λ t l i e. at-without-lane l (t .buffers) i ∙ ap (λ (x : Bool). cond x vacant (at (t .buffers) i)) e;
+      kept = λ t l i e. at-without-lane l (t .buffers) i ∙ ap (λ (x : Bool). cond x vacant (at (t .buffers) i)) e;
+      abandoned = λ t l n r e. rw (r, e);
+      runs-on = λ t l n r e. rw (r, e);
+      idle = λ t l r. rw r;
+      stays-abandoned = λ t l r. rw r;
+    }

@@ -19,12 +19,13 @@ use Rattle.buffer.specs.Buffer.{vacant, isPending, isActive, isFree, holds}
 use Rattle.translator.specs.declared.Found.{Found}
 use Rattle.translator.specs.declared.Found.the-variants.{Nowhere, At}
 use Rattle.translator.specs.declared.Choice.{Choice}
-use Rattle.translator.specs.declared.Choice.the-variants.{NoRoom, Held, Reused, Took}
+use Rattle.translator.specs.declared.Choice.the-variants.{NoRoom, LimitReached, Held, Reused, Took}
 use Rattle.translator.specs.declared.Earliest.{Earliest}
 use Rattle.translator.specs.declared.Earliest.the-variants.{NonePending, Stored}
 use Rattle.translator.specs.Translator.{at}
 use Rattle.translator.specs.Search.{later, find, chooseFree, chooseHeld, chosen, pass}
 use Rattle.translator.specs.Order.{atPlace, sooner, earliest}
+use Rattle.translator.specs.Limit.{heldBy, mayStore, limited, permitted}
 use Rattle.translator.proofs.At.{placed-pending, only-place}
 
 -- buffer i passes the test, and is one of the first m
@@ -69,6 +70,7 @@ pub record Unheld (k : Key) (m : ℕ) (bs : List Buffer) (f : Found) : Type 0 wh
 
 abbrev pub ChosenSays : Key → ℕ → List Buffer → Choice → Type 0
 ChosenSays k m bs NoRoom = Unheld k m bs Nowhere
+ChosenSays k m bs LimitReached = ⊥
 ChosenSays k m bs (Held n) = Holder k m bs (n .0) true
 ChosenSays k m bs (Reused n) = Holder k m bs (n .0) false
 ChosenSays k m bs (Took n) = Unheld k m bs (At n)
@@ -88,6 +90,50 @@ chosen-says k m bs = go (find (holds k) (take m bs)) (find-says (holds k) m bs)
     go : (f : Found) → FindSays (holds k) m bs f → ChosenSays k m bs (chooseHeld (take m bs) f)
     go Nowhere u = free-case u (find isFree (take m bs)) (find-says isFree m bs)
     go (At n) r = held-case n r (isActive (at (take m bs) (n .0) .slot)) (ap (λ (b : Buffer). isActive (b .slot)) (sym (getD-take m bs (n .0) vacant (r .small))))
+
+-- ---- the limit
+
+abbrev pub isHeld : Choice → Bool
+isHeld NoRoom = false
+isHeld LimitReached = false
+isHeld (Held n) = true
+isHeld (Reused n) = false
+isHeld (Took n) = false
+
+-- the lane may store, and what the search says
+pub record Stores (b : ℕ) (k : Key) (m : ℕ) (bs : List Buffer) (c : Choice) : Type 0 where
+  pub may : mayStore b (heldBy (k .lane) (take m bs)) ≡ true
+  pub says : ChosenSays k m bs c
+
+-- the lane may not store; the search found no pending or ready buffer with the key first
+pub record Limited (b : ℕ) (k : Key) (m : ℕ) (bs : List Buffer) : Type 0 where
+  pub full : mayStore b (heldBy (k .lane) (take m bs)) ≡ false
+  pub wanted : Choice
+  pub says : ChosenSays k m bs wanted
+  pub unheld : isHeld wanted ≡ false
+
+abbrev pub PermittedSays : ℕ → Key → ℕ → List Buffer → Choice → Type 0
+PermittedSays b k m bs NoRoom = Stores b k m bs NoRoom
+PermittedSays b k m bs LimitReached = Limited b k m bs
+PermittedSays b k m bs (Held n) = ChosenSays k m bs (Held n)
+PermittedSays b k m bs (Reused n) = Stores b k m bs (Reused n)
+PermittedSays b k m bs (Took n) = Stores b k m bs (Took n)
+
+pub permitted-says : (b : ℕ) (k : Key) (m : ℕ) (bs : List Buffer) → PermittedSays b k m bs (permitted b k (take m bs))
+unfolding permitted
+permitted-says b k m bs = go (mayStore b (heldBy (k .lane) (take m bs))) refl (chosen k (take m bs)) (chosen-says k m bs)
+  where
+    go : (x : Bool) → mayStore b (heldBy (k .lane) (take m bs)) ≡ x → (c : Choice) → ChosenSays k m bs c → PermittedSays b k m bs (limited x c)
+    go true e NoRoom r = record { may = e; says = r }
+    go true e LimitReached r = absurd r
+    go true e (Held n) r = r
+    go true e (Reused n) r = record { may = e; says = r }
+    go true e (Took n) r = record { may = e; says = r }
+    go false e NoRoom r = record { full = e; wanted = NoRoom; says = r; unheld = refl }
+    go false e LimitReached r = absurd r
+    go false e (Held n) r = r
+    go false e (Reused n) r = record { full = e; wanted = Reused n; says = r; unheld = refl }
+    go false e (Took n) r = record { full = e; wanted = Took n; says = r; unheld = refl }
 
 -- ---- the earliest
 

@@ -3,6 +3,7 @@ pub mod Bare
 pub mod Lists
 pub mod StartSplit
 pub mod At
+pub mod Tallies
 pub mod Finding
 pub mod Ranks
 pub mod Kept

@@ -6,10 +6,14 @@ use mathlib.Core.List.{List, [], _∷_, map}
 use native.Mathlib.Nat.{not-suc-le-zero, le-of-suc-le-suc}
 use native.Mathlib.Omega.{arith}
 use lib.ListN.{length, getD, length-map}
+use Rattle.buffer.specs.declared.Lane.{Lane}
 use Rattle.buffer.specs.declared.Slot.{Slot}
 use Rattle.buffer.specs.declared.Buffer.{Buffer}
+use Rattle.translator.specs.declared.LowSide.{LowSide}
+use Rattle.translator.specs.declared.Translator.{Translator}
 use Rattle.translator.specs.Slots.{slotsIn, bare}
 use Rattle.translator.specs.Order.{bit, tally, rankedIn, ranked}
+use Rattle.translator.specs.ResetLane.{withoutLane, lowWithoutLane, resetLane}
 use Rattle.translator.proofs.Bare.{rankedIn-bare}
 
 -- a list is as long as what a function makes of it
@@ -51,3 +55,13 @@ module _ (d : Buffer) (bs : List Buffer) (long : length bs ≡ 4) where
   ranked-four e e₀ e₁ e₂ e₃ =
       rw (e₀, e₁, e₂, e₃, e, rankedIn-bare bs (getD bs 0 d), rankedIn-bare bs (getD bs 1 d), rankedIn-bare bs (getD bs 2 d), rankedIn-bare bs (getD bs 3 d))
       (sym (ap (map (rankedIn bs)) (four d bs long)))
+
+  pub reset-four : (l : Lane) {r₀ r₁ r₂ r₃ : Buffer} → r₀ ≡ withoutLane l (getD bs 0 d) → r₁ ≡ withoutLane l (getD bs 1 d) → r₂ ≡ withoutLane l (getD bs 2 d)
+      → r₃ ≡ withoutLane l (getD bs 3 d) → r₀ ∷ r₁ ∷ r₂ ∷ r₃ ∷ [] ≡ map (withoutLane l) bs
+  reset-four l e₀ e₁ e₂ e₃ = rw (e₀, e₁, e₂, e₃) (sym (ap (map (withoutLane l)) (four d bs long)))
+
+-- the emptied buffers and the low side make the translator
+pub put-together : (t : Translator) (l : Lane) {bs : List Buffer} {low : LowSide} → bs ≡ map (withoutLane l) (t .buffers) → low ≡ lowWithoutLane l (t .buffers) (t .low)
+    → record { buffers = bs; count = t .count; low = low } ≡ resetLane t l
+unfolding resetLane
+put-together t l e f = rw (e, f)

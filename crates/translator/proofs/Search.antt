@@ -1,6 +1,6 @@
 -- A pass over the buffers, and that the pass of a start-split gives document 01's choice. Assumes nothing.
 use Prim.Native.Nat.{ℕ, suc, _+_, _<_, _≤_, min}
-use mathlib.Core.Path.{_≡_, refl, ap, _∙_}
+use mathlib.Core.Path.{_≡_, refl, sym, ap, _∙_}
 use mathlib.Core.Bool.{Bool, true, false, cond}
 use mathlib.Core.List.{List, [], _∷_, map}
 use native.Mathlib.Numerals.{add-one}
@@ -16,16 +16,18 @@ use Rattle.buffer.specs.declared.BufferNumber.{BufferNumber}
 use Rattle.buffer.specs.declared.Standing.{Standing}
 use Rattle.buffer.specs.declared.Standing.the-variants.{Busy, Free, Holds, Reusable}
 use Rattle.buffer.specs.Key.{keyOf, sameKey}
-use Rattle.buffer.specs.Buffer.{holds, isActive, isFree, standing}
+use Rattle.buffer.specs.Buffer.{holds, isActive, isFree, activeIn, standing}
 use Rattle.translator.specs.declared.Found.{Found}
 use Rattle.translator.specs.declared.Found.the-variants.{Nowhere, At}
 use Rattle.translator.specs.declared.Choice.{Choice}
 use Rattle.translator.specs.declared.Choice.the-variants.{NoRoom, Held, Reused, Took}
+use Rattle.translator.specs.declared.Searched.{Searched}
 use Rattle.translator.specs.declared.Earliest.the-variants.{NonePending}
 use Rattle.translator.specs.Translator.{at}
 use Rattle.translator.specs.Slots.{bare}
-use Rattle.translator.specs.Order.{sooner, earliest}
-use Rattle.translator.specs.Search.{later, find, chooseFree, chooseHeld, chosen, looked, pass, holderOf}
+use Rattle.translator.specs.Order.{bit, tally, sooner, earliest}
+use Rattle.translator.specs.Limit.{heldBy, mayStore, limited, permitted, searched, searching}
+use Rattle.translator.specs.Search.{later, find, chooseFree, chooseHeld, chosen, looked, pass}
 
 -- A pass over the first m of the slots ss that is to give w: where it stands at number i with c in hand, ..
 pub record Ahead {C : Type 0} (f : C → Slot → BufferNumber → C) (m : ℕ) (ss : List Slot) (w : C) (i : ℕ) (c : C) : Type 0 where
@@ -52,9 +54,10 @@ module _ {C : Type 0} {f : C → Slot → BufferNumber → C} {m : ℕ} {ss : Li
 abbrev pub looking : Key → Choice → Slot → BufferNumber → Choice
 looking k c s n = looked c (standing k s) n
 
-pub look-on : {k : Key} {m : ℕ} {ss : List Slot} {w : Choice} {i : ℕ} {c c′ : Choice} {s : Standing} (d : Slot) → Ahead (looking k) m ss w i c
-    → s ≡ standing k (getD ss i d) → c′ ≡ looked c s (record { 0 = i }) → i < m → i < length ss → Ahead (looking k) m ss w (i + 1) c′
-look-on d a e f = onward d a (rw (f, e))
+pub look-on : {k : Key} {m : ℕ} {ss : List Slot} {w : Searched} {i : ℕ} {c c′ : Choice} {a y : ℕ} {s : Standing} {x : Bool} (d : Slot)
+    → Ahead (searching k) m ss w i (record { choice = c; active = a }) → s ≡ standing k (getD ss i d) → c′ ≡ looked c s (record { 0 = i })
+    → x ≡ activeIn (k .lane) (getD ss i d) → y ≡ bit x → i < m → i < length ss → Ahead (searching k) m ss w (i + 1) (record { choice = c′; active = a + y })
+look-on d h e f g n = onward d h (rw (f, e, n, g))
 
 -- what holds the key ends the search
 held : (k : Key) (n : ℕ) (m : BufferNumber) (bs : List Buffer) → pass (looking k) n (Held m) bs ≡ Held m
@@ -146,26 +149,79 @@ pub pass-chosen : (k : Key) (bs : List Buffer) → pass (looking k) 0 NoRoom bs 
 unfolding chosen
 pass-chosen k bs = one-pass k 0 bs ∙ from-zero bs (find (holds k) bs)
 
-pub choosing : (k : Key) (m : ℕ) (ss : List Slot) → Ahead (looking k) m ss (chosen k (take m (bare ss))) 0 NoRoom
-choosing k m ss = record { rest = pass-chosen k (take m (bare ss)) }
+-- choice and count are carried side by side
+side-by-side : (k : Key) (n : ℕ) (c : Searched) (bs : List Buffer)
+    → pass (searching k) n c bs ≡ record { choice = pass (looking k) n (c .choice) bs; active = c .active + heldBy (k .lane) bs }
+unfolding pass tally
+side-by-side k n c [] = let z : c .active + 0 ≡ c .active = omega arith in rw z
+side-by-side k n c (b ∷ bs) =
+    let e : (c .active + bit (activeIn (k .lane) (b .slot))) + heldBy (k .lane) bs ≡ c .active + (bit (activeIn (k .lane) (b .slot)) + heldBy (k .lane) bs) = omega arith in
+    side-by-side k (suc n) (searching k c (b .slot) (record { 0 = n })) bs ∙ rw e
+
+pub pass-searched : (k : Key) (bs : List Buffer) → pass (searching k) 0 (record { choice = NoRoom; active = 0 }) bs ≡ searched k bs
+pass-searched k bs =
+    let z : 0 + heldBy (k .lane) bs ≡ heldBy (k .lane) bs = omega arith in
+    side-by-side k 0 (record { choice = NoRoom; active = 0 }) bs ∙ rw (z, pass-chosen k bs)
+
+pub choosing : (k : Key) (m : ℕ) (ss : List Slot) → Ahead (searching k) m ss (searched k (take m (bare ss))) 0 (record { choice = NoRoom; active = 0 })
+choosing k m ss = record { rest = pass-searched k (take m (bare ss)) }
 
 -- the pass from the first buffer gives the earliest
 pub seeking : (m : ℕ) (ss : List Slot) → Ahead sooner m ss (earliest (take m (bare ss))) 0 NonePending
 unfolding earliest
 seeking m ss = record { rest = refl }
 
--- the buffer of a choice that holds the key is the one that the key's search finds
-pub holder-found : (k : Key) (bs : List Buffer) → holderOf (chosen k bs) ≡ find (holds k) bs
-unfolding chosen
-holder-found k bs = go (find (holds k) bs)
+-- what is chosen under the limit
+pub chosen-in : (b : ℕ) (k : Key) (bs : List Buffer) {r : Searched} {x : Bool} {c : Choice} → c ≡ limited x (r .choice) → x ≡ mayStore b (r .active) → r ≡ searched k bs
+    → c ≡ permitted b k bs
+unfolding permitted
+chosen-in b k bs e f g = rw (e, f, g)
+
+-- ---- the search for the buffer that holds a key
+
+-- its step: the first that was found stays
+abbrev pub finding : Key → Found → Slot → BufferNumber → Found
+finding k Nowhere s n = cond (holds k s) (At n) Nowhere
+finding k (At m) s n = At m
+
+found-stays : (k : Key) (n : ℕ) (m : BufferNumber) (bs : List Buffer) → pass (finding k) n (At m) bs ≡ At m
+unfolding pass
+found-stays k n m [] = refl
+found-stays k n m (b ∷ bs) = found-stays k (suc n) m bs
+
+-- counted from number n on
+abbrev shifted : ℕ → Found → Found
+shifted n Nowhere = Nowhere
+shifted n (At i) = At (record { 0 = n + i .0 })
+
+shifted-later : (n : ℕ) (f : Found) → shifted (suc n) f ≡ shifted n (later f)
+shifted-later n Nowhere = refl
+shifted-later n (At i) = let e : suc n + i .0 ≡ n + suc (i .0) = omega arith in rw e
+
+shifted-zero : (f : Found) → shifted 0 f ≡ f
+shifted-zero Nowhere = refl
+shifted-zero (At i) = let z : 0 + i .0 ≡ i .0 = omega arith in rw z
+
+pass-found : (k : Key) (n : ℕ) (bs : List Buffer) → pass (finding k) n Nowhere bs ≡ shifted n (find (holds k) bs)
+unfolding pass find
+pass-found k n [] = refl
+pass-found k n (b ∷ bs) = go (holds k (b .slot)) (pass-found k (suc n) bs)
   where
-    free : (f : Found) → holderOf (chooseFree f) ≡ Nowhere
-    free Nowhere = refl
-    free (At n) = refl
+    go : (x : Bool) → pass (finding k) (suc n) Nowhere bs ≡ shifted (suc n) (find (holds k) bs)
+        → pass (finding k) (suc n) (cond x (At (record { 0 = n })) Nowhere) bs ≡ shifted n (cond x (At (record { 0 = 0 })) (later (find (holds k) bs)))
+    go true ih = let z : n + 0 ≡ n = omega arith in found-stays k (suc n) (record { 0 = n }) bs ∙ rw z
+    go false ih = ih ∙ shifted-later n (find (holds k) bs)
 
-    go : (f : Found) → holderOf (chooseHeld bs f) ≡ f
-    go Nowhere = free (find isFree bs)
-    go (At n) = elim (isActive (at bs (n .0) .slot)) as (λ x. holderOf (cond x (Held n) (Reused n)) ≡ At n) [ true ↦ refl | false ↦ refl ]
+pub finding-from : (k : Key) (m : ℕ) (ss : List Slot) → Ahead (finding k) m ss (find (holds k) (take m (bare ss))) 0 Nowhere
+finding-from k m ss = record { rest = pass-found k 0 (take m (bare ss)) ∙ shifted-zero (find (holds k) (take m (bare ss))) }
 
-pub found-by : (k : Key) (bs : List Buffer) (c : Choice) → c ≡ chosen k bs → holderOf c ≡ find (holds k) bs
-found-by k bs c e = rw e (holder-found k bs)
+module _ {k : Key} {m : ℕ} {ss : List Slot} {w : Found} {i : ℕ} where
+  pub not-here : {x : Bool} (d : Slot) → Ahead (finding k) m ss w i Nowhere → x ≡ holds k (getD ss i d) → x ≡ false → i < m → i < length ss
+      → Ahead (finding k) m ss w (i + 1) Nowhere
+  not-here d a e f = onward d a (rw (sym e ∙ f))
+
+  pub found-here : {x : Bool} (d : Slot) → Ahead (finding k) m ss w i Nowhere → x ≡ holds k (getD ss i d) → x ≡ true → i < m → i < length ss
+      → At (record { 0 = i }) ≡ w
+  found-here d a e f l n =
+      let b : Ahead (finding k) m ss w (i + 1) (At (record { 0 = i })) = onward d a (rw (sym e ∙ f)) l n in
+      sym (found-stays k (i + 1) (record { 0 = i }) (drop (i + 1) (take m (bare ss)))) ∙ b .rest

@@ -16,7 +16,7 @@ use Rattle.buffer.specs.declared.Buffer.{Buffer}
 use Rattle.buffer.specs.declared.BufferNumber.{BufferNumber}
 use Rattle.translator.specs.declared.Translator.{Translator}
 use Rattle.translator.specs.declared.Choice.{Choice}
-use Rattle.translator.specs.Search.{chosen}
+use Rattle.translator.specs.Limit.{permitted}
 use Rattle.translator.specs.Translator.{withBuffer}
 use Rattle.translator.specs.Slots.{slotsIn, bare}
 use Rattle.translator.specs.Order.{waiting, ranked}
@@ -32,6 +32,6 @@ made t n s l e f g h i = rw (e, f, g, h, i, waiting-bare (t .buffers))
 
 -- what was chosen decides
 pub by-choice : (t : Translator) (s : StartSplit) (l : List ℕ) {k : Key} (c : Choice) → startFits s (length l) ≡ true → k ≡ keyOf s
-    → c ≡ chosen k (take (t .count) (t .buffers)) → startBy t s l c ≡ startSplit t s l
+    → c ≡ permitted (t .count) k (take (t .count) (t .buffers)) → startBy t s l c ≡ startSplit t s l
 unfolding startSplit
 by-choice t s l c f e g = rw (f, ← e, ← g)

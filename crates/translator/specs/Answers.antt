@@ -2,13 +2,15 @@
 use Prim.Native.Nat.{ℕ}
 use mathlib.Core.Bool.{Bool, _&&_, cond}
 use lib.Dec.{leb}
+use Rattle.buffer.specs.declared.Lane.{Lane}
+use Rattle.buffer.specs.declared.Lane.the-variants.{Zero, One}
 use Rattle.buffer.specs.declared.Pid.{Pid}
 use Rattle.buffer.specs.declared.Pid.the-variants as pid
 use Rattle.buffer.specs.declared.DeviceResult.{DeviceResult}
 use Rattle.buffer.specs.declared.DeviceResult.the-variants as result
 use Rattle.buffer.specs.Lengths.{isData}
 use Rattle.translator.specs.declared.Choice.{Choice}
-use Rattle.translator.specs.declared.Choice.the-variants.{NoRoom, Held, Reused, Took}
+use Rattle.translator.specs.declared.Choice.the-variants.{NoRoom, LimitReached, Held, Reused, Took}
 use Rattle.translator.specs.declared.StartAnswer.{StartAnswer}
 use Rattle.translator.specs.declared.StartAnswer.the-variants as start
 use Rattle.translator.specs.declared.CompleteAnswer.{CompleteAnswer}
@@ -22,9 +24,10 @@ use Rattle.translator.specs.declared.DeliverAnswer.the-variants as deliv
 abbrev pub isRefusal : ℕ → Bool
 isRefusal n = leb 2 n && leb n 8
 
--- 0 done (ACK), 3 no buffer (NAK)
+-- 0 done (ACK), 3 no buffer or the lane's limit (NAK)
 abbrev pub choiceNumber : Choice → ℕ
 choiceNumber NoRoom = 3
+choiceNumber LimitReached = 3
 choiceNumber (Held n) = 0
 choiceNumber (Reused n) = 0
 choiceNumber (Took n) = 0
@@ -46,6 +49,10 @@ resultPid result.Nak = 10
 resultPid result.Stall = 14
 resultPid result.Data0 = 3
 resultPid result.Data1 = 11
+
+abbrev pub laneNumber : Lane → ℕ
+laneNumber Zero = 0
+laneNumber One = 1
 
 -- OUT 1, IN 9, SETUP 13
 abbrev pub pidNumber : Pid → ℕ

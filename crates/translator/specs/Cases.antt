@@ -1,4 +1,4 @@
--- Three cases beside those of the bench table (crate hub, specs/Cases), for a new translator with two buffers.
+-- Three cases beside those of the bench table (crate hub, specs/Cases), in lane 0 of a new translator with three buffers.
 -- A reader must believe: each row has the calls of its case, and what document 01 answers to each.
 use Prim.Native.Nat.{ℕ}
 use mathlib.Core.Path.{_≡_}
@@ -7,6 +7,7 @@ use mathlib.Core.List.{List, [], _∷_}
 use lib.Dec.{eqb}
 use lib.ListN.{replicate}
 use Rattle.payload.specs.Payload.{content}
+use Rattle.buffer.specs.declared.Lane.the-variants.{Zero}
 use Rattle.buffer.specs.declared.Direction.the-variants as direction
 use Rattle.buffer.specs.declared.Key.{Key}
 use Rattle.buffer.specs.declared.Pid.{Pid}
@@ -14,6 +15,7 @@ use Rattle.buffer.specs.declared.Pid.the-variants as pid
 use Rattle.buffer.specs.declared.TransferType.the-variants.{Bulk}
 use Rattle.buffer.specs.declared.StartSplit.{StartSplit}
 use Rattle.buffer.specs.declared.DeviceResult.{DeviceResult}
+use Rattle.buffer.specs.Key.{keyWith}
 use Rattle.buffer.specs.declared.DeviceResult.the-variants.{Ack, Data0, Data1}
 use Rattle.translator.specs.declared.Translator.{Translator}
 use Rattle.translator.specs.declared.CompleteAnswer.{CompleteAnswer}
@@ -48,10 +50,10 @@ plain n = record { number = n; pid = 0; address = 0; endpoint = 0; bytes = [] }
 
 -- a full-speed bulk start-split
 abbrev pub split : Pid → ℕ → ℕ → StartSplit
-split p a e = record { pid = p; transfer = Bulk; lowspeed = false; toggle = false; address = record { 0 = a }; endpoint = e }
+split p a e = record { lane = Zero; pid = p; transfer = Bulk; lowspeed = false; toggle = false; address = record { 0 = a }; endpoint = e }
 
 abbrev pub inKey : ℕ → ℕ → Key
-inKey a e = record { address = record { 0 = a }; endpoint = e; direction = direction.In }
+inKey a e = keyWith Zero (record { 0 = a }) e direction.In
 
 abbrev pub completeSaid : CompleteAnswer → List ℕ → Said
 completeSaid NoMatch l = plain 2
@@ -145,7 +147,7 @@ holdsFrom t (c ∷ cs) (a ∷ rest) = let o = called t c in sameSaid (o .said) a
 
 abbrev pub allHold : List Row → Bool
 allHold [] = true
-allHold (r ∷ rs) = holdsFrom (newTranslator 2) (r .calls) (r .answers) && allHold rs
+allHold (r ∷ rs) = holdsFrom (newTranslator 3) (r .calls) (r .answers) && allHold rs
 
 -- every row of the table holds
 abbrev pub CasesHold : Type 0

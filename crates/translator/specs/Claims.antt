@@ -3,26 +3,32 @@ use Prim.Native.Nat.{ℕ, _≤_, _<_}
 use mathlib.Core.Path.{_≡_}
 use mathlib.Core.Bool.{true, false}
 use mathlib.Core.List.{List}
+use lib.ListN.{length, take}
 use Rattle.payload.specs.Payload.{payloadOf}
+use Rattle.buffer.specs.declared.Lane.{Lane}
 use Rattle.buffer.specs.declared.Key.{Key}
 use Rattle.buffer.specs.declared.StartSplit.{StartSplit}
 use Rattle.buffer.specs.declared.DeviceResult.{DeviceResult}
 use Rattle.buffer.specs.declared.Slot.the-variants.{Pending, Old}
 use Rattle.buffer.specs.declared.Buffer.{Buffer}
 use Rattle.buffer.specs.declared.BufferNumber.{BufferNumber}
-use Rattle.buffer.specs.Buffer.{isPending}
-use Rattle.translator.specs.declared.LowSide.the-variants.{Running, Abandoned}
+use Rattle.buffer.specs.Key.{keyOf}
+use Rattle.buffer.specs.Lengths.{startFits}
+use Rattle.buffer.specs.Buffer.{vacant, isPending, isActive, holds, inLane}
+use Rattle.translator.specs.declared.LowSide.the-variants.{Idle, Running, Abandoned}
 use Rattle.translator.specs.declared.Translator.{Translator}
-use Rattle.translator.specs.declared.Choice.the-variants.{Reused, Took}
+use Rattle.translator.specs.declared.Choice.the-variants.{LimitReached, Held, Reused, Took}
 use Rattle.translator.specs.declared.StartAnswer.the-variants.{Chosen}
 use Rattle.translator.specs.declared.LaunchAnswer.the-variants.{NothingPending, Launches}
 use Rattle.translator.specs.Translator.{at, newTranslator, emptied}
 use Rattle.translator.specs.Order.{atPlace, ranked}
+use Rattle.translator.specs.Limit.{AtLimit, NoRepeat}
 use Rattle.translator.specs.StartSplit.{startSplit}
 use Rattle.translator.specs.CompleteSplit.{completeSplit}
 use Rattle.translator.specs.Launch.{launch}
 use Rattle.translator.specs.Deliver.{deliver}
 use Rattle.translator.specs.Clear.{clearBuffer}
+use Rattle.translator.specs.ResetLane.{resetLane}
 use Rattle.translator.specs.Answers.{isRefusal, startNumber, completeNumber, launchNumber, deliverNumber}
 use Rattle.translator.specs.Valid.{ValidTranslator}
 
@@ -34,6 +40,7 @@ pub record StaysValid : Type 0 where
   pub launched : (t : Translator) → ValidTranslator t → ValidTranslator (launch t .next)
   pub delivered : (t : Translator) (r : DeviceResult) (l : List ℕ) → ValidTranslator t → ValidTranslator (deliver t r l .next)
   pub cleared : (t : Translator) (k : Key) → ValidTranslator t → ValidTranslator (clearBuffer t k)
+  pub reset : (t : Translator) (l : Lane) → ValidTranslator t → ValidTranslator (resetLane t l)
   pub empty : (t : Translator) → ValidTranslator t → ValidTranslator (emptied t)
 
 -- a refused call leaves the translator as it was
@@ -91,6 +98,26 @@ pub record OldKept : Type 0 where
 abbrev pub AbandonedDropped : Type 0
 AbandonedDropped = (t : Translator) (r : DeviceResult) (l : List ℕ) → t .low ≡ Abandoned → deliver t r l .next .buffers ≡ t .buffers
 
+-- The limit of a lane, exactly: a start-split is refused for it where storing would pass it and is no repeat, whatever other buffer is old
+-- or empty, ..
+pub record LaneLimit : Type 0 where
+  pub reached : (t : Translator) (s : StartSplit) (l : List ℕ) → ValidTranslator t → startSplit t s l .answer ≡ Chosen LimitReached
+      → AtLimit (s .lane) t × NoRepeat (keyOf s) t
+  pub refused : (t : Translator) (s : StartSplit) (l : List ℕ) → ValidTranslator t → startFits s (length l) ≡ true
+      → AtLimit (s .lane) t → NoRepeat (keyOf s) t → startSplit t s l .answer ≡ Chosen LimitReached
+  -- .. and a repeat of a key held pending or ready is answered as ever
+  pub repeated : (t : Translator) (s : StartSplit) (l : List ℕ) (n : BufferNumber) → ValidTranslator t → startFits s (length l) ≡ true
+      → holds (keyOf s) (at (t .buffers) (n .0) .slot) ≡ true → isActive (at (t .buffers) (n .0) .slot) ≡ true → startSplit t s l .answer ≡ Chosen (Held n)
+
+-- ResetTT from a lane
+pub record LaneReset : Type 0 where
+  pub empties : (t : Translator) (l : Lane) (i : ℕ) → inLane l (at (t .buffers) i .slot) ≡ true → at (resetLane t l .buffers) i ≡ vacant
+  pub kept : (t : Translator) (l : Lane) (i : ℕ) → inLane l (at (t .buffers) i .slot) ≡ false → at (resetLane t l .buffers) i ≡ at (t .buffers) i
+  pub abandoned : (t : Translator) (l : Lane) (n : BufferNumber) → t .low ≡ Running n → inLane l (at (t .buffers) (n .0) .slot) ≡ true → resetLane t l .low ≡ Abandoned
+  pub runs-on : (t : Translator) (l : Lane) (n : BufferNumber) → t .low ≡ Running n → inLane l (at (t .buffers) (n .0) .slot) ≡ false → resetLane t l .low ≡ Running n
+  pub idle : (t : Translator) (l : Lane) → t .low ≡ Idle → resetLane t l .low ≡ Idle
+  pub stays-abandoned : (t : Translator) (l : Lane) → t .low ≡ Abandoned → resetLane t l .low ≡ Abandoned
+
 pub record TranslatorClaims : Type 0 where
   pub stays-valid : StaysValid
   pub refused-same : RefusedSame
@@ -100,3 +127,5 @@ pub record TranslatorClaims : Type 0 where
   pub same-again : SameAgain
   pub old-kept : OldKept
   pub abandoned-dropped : AbandonedDropped
+  pub lane-limit : LaneLimit
+  pub lane-reset : LaneReset

@@ -2,11 +2,13 @@ pub mod Translator
 pub mod Slots
 pub mod Search
 pub mod Order
+pub mod Limit
 pub mod StartSplit
 pub mod CompleteSplit
 pub mod Launch
 pub mod Deliver
 pub mod Clear
+pub mod ResetLane
 pub mod Answers
 pub mod Valid
 pub mod Claims

@@ -13,7 +13,7 @@ use Rattle.buffer.specs.Buffer.{holds, isActive, isFree}
 use Rattle.translator.specs.declared.Found.{Found}
 use Rattle.translator.specs.declared.Found.the-variants.{Nowhere, At}
 use Rattle.translator.specs.declared.Choice.{Choice}
-use Rattle.translator.specs.declared.Choice.the-variants.{NoRoom, Held, Reused, Took}
+use Rattle.translator.specs.declared.Choice.the-variants.{NoRoom, LimitReached, Held, Reused, Took}
 use Rattle.translator.specs.Translator.{at}
 
 abbrev pub later : Found → Found
@@ -35,7 +35,7 @@ abbrev pub chooseHeld : List Buffer → Found → Choice
 chooseHeld bs Nowhere = chooseFree (find isFree bs)
 chooseHeld bs (At n) = cond (isActive (at bs (n .0) .slot)) (Held n) (Reused n)
 
--- what a start-split under the key k does, of the buffers bs
+-- what a start-split under the key k does, of the buffers bs, the limit of its lane apart
 unfoldable pub chosen : Key → List Buffer → Choice
 chosen k bs = chooseHeld bs (find (holds k) bs)
 
@@ -45,6 +45,7 @@ looked NoRoom Busy n = NoRoom
 looked NoRoom Free n = Took n
 looked NoRoom Holds n = Held n
 looked NoRoom Reusable n = Reused n
+looked LimitReached s n = LimitReached
 looked (Held m) s n = Held m
 looked (Reused m) s n = Reused m
 looked (Took m) Busy n = Took m
@@ -56,10 +57,3 @@ looked (Took m) Reusable n = Reused n
 unfoldable pub pass : {C : Type 0} → (C → Slot → BufferNumber → C) → ℕ → C → List Buffer → C
 pass f n c [] = c
 pass f n c (b ∷ bs) = pass f (suc n) (f c (b .slot) (record { 0 = n })) bs
-
--- the buffer of a choice that holds the key
-abbrev pub holderOf : Choice → Found
-holderOf NoRoom = Nowhere
-holderOf (Held n) = At n
-holderOf (Reused n) = At n
-holderOf (Took n) = Nowhere

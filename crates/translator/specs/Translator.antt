@@ -23,6 +23,6 @@ withBuffer t n b = record { buffers = set (t .buffers) (n .0) b; count = t .coun
 abbrev pub withLow : Translator → LowSide → Translator
 withLow t l = record { buffers = t .buffers; count = t .count; low = l }
 
--- ResetTT: empties the translator. Bus reset, an accepted SetConfiguration and ResetTT stop the low side at once.
+-- Bus reset and an accepted SetConfiguration empty the translator and stop the low side at once.
 abbrev pub emptied : Translator → Translator
 emptied t = newTranslator (t .count)

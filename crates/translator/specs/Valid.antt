@@ -1,10 +1,12 @@
 -- Which translators are valid. A reader must believe: number ranges, zero bytes behind payloads, no key and no place in the order of
--- acceptance held twice, and at most one running transaction, itself pending unless abandoned.
-use Prim.Native.Nat.{ℕ, _≤_}
+-- acceptance held twice, at most B minus 1 buffers pending or ready for each lane, and at most one running transaction, itself pending
+-- unless abandoned.
+use Prim.Native.Nat.{ℕ, _≤_, _<_}
 use mathlib.Core.Path.{_≡_}
 use mathlib.Core.Bool.{Bool, true}
 use mathlib.Core.List.{List}
 use lib.ListN.{length}
+use Rattle.buffer.specs.declared.Lane.{Lane}
 use Rattle.buffer.specs.declared.Key.{Key}
 use Rattle.buffer.specs.declared.Slot.{Slot}
 use Rattle.buffer.specs.declared.Buffer.{Buffer}
@@ -15,6 +17,7 @@ use Rattle.translator.specs.declared.LowSide.the-variants.{Idle, Running
 use Rattle.translator.specs.declared.Translator.{Translator}
 use Rattle.translator.specs.Translator.{at}
 use Rattle.translator.specs.Order.{atPlace}
+use Rattle.translator.specs.Limit.{heldBy}
 
 -- no two buffers pass the test
 abbrev pub Apart : (Slot → Bool) → List Buffer → Type 0
@@ -35,4 +38,6 @@ pub record ValidTranslator (t : Translator) : Type 0 where
   pub whole : (i : ℕ) → Whole (at (t .buffers) i)
   pub keys : (k : Key) → Apart (holds k) (t .buffers)
   pub places : (p : ℕ) → Apart (atPlace p) (t .buffers)
+  -- at most B minus 1
+  pub lanes : (l : Lane) → heldBy l (t .buffers) < t .count
   pub running : RunsPending (t .buffers) (t .low)

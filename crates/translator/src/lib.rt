@@ -4,20 +4,23 @@ ghost use Prim.Native.Nat.{_+_, _≤_};
 ghost use lib.ListN.{take};
 ghost use Rattle.translator.specs.Translator.{newTranslator, at, withBuffer, withLow, emptied};
 ghost use Rattle.translator.specs.Slots.{slotsIn, bare};
-ghost use Rattle.translator.specs.Search.{looked, chosen, find};
+ghost use Rattle.translator.specs.Search.{looked, find};
 ghost use Rattle.buffer.specs.Buffer.{holds, isPending};
+ghost use Rattle.translator.specs.Limit.{mayStore, limited, permitted, searched};
 ghost use Rattle.translator.specs.Order.{bit, isBefore, waiting, before, rankedIn, ranked, sooner, earliest};
 ghost use Rattle.translator.specs.StartSplit.{stored, startSplit};
 ghost use Rattle.translator.specs.CompleteSplit.{given, completed, completeSplit};
 ghost use Rattle.translator.specs.Launch.{unlaunched, launched, launch};
 ghost use Rattle.translator.specs.Deliver.{undelivered, delivered, deliver};
 ghost use Rattle.translator.specs.Clear.{lowWithout, clearBuffer};
+ghost use Rattle.translator.specs.ResetLane.{withoutLane, lowWithoutLane, resetLane};
 ghost use Rattle.translator.specs.Claims.{TranslatorClaims};
 ghost use Rattle.translator.specs.Cases.{CasesHold};
 use buffer::Buffer;
 use buffer::BufferNumber;
 use buffer::DeviceResult;
 use buffer::Key;
+use buffer::Lane;
 use buffer::Slot;
 use buffer::Standing;
 use buffer::StartSplit;
@@ -47,9 +50,17 @@ pub enum Found {
 // What a start-split does with which buffer.
 pub enum Choice {
     NoRoom,
+    // storing would pass the limit of its lane
+    LimitReached,
     Held(BufferNumber),
     Reused(BufferNumber),
     Took(BufferNumber),
+}
+
+// What one pass over the slots finds: the choice, the limit apart, and how many buffers the key's lane holds pending or ready.
+pub struct Searched {
+    pub choice: Choice,
+    pub active: u8,
 }
 
 // The pending buffer accepted first, with its place.
@@ -118,6 +129,7 @@ fn look(sofar: Choice, standing: Standing, n: BufferNumber) -> Choice
             Standing::Holds => Choice::Held(n),
             Standing::Reusable => Choice::Reused(n),
         },
+        Choice::LimitReached => Choice::LimitReached,
         Choice::Held(m) => Choice::Held(m),
         Choice::Reused(m) => Choice::Reused(m),
         Choice::Took(m) => match standing {
@@ -130,33 +142,77 @@ fn look(sofar: Choice, standing: Standing, n: BufferNumber) -> Choice
 }
 
 // One pass over the slots of the first `count` buffers, in rising number.
-pub fn choose(slots: [Slot; 4], count: u8, key: Key) -> Choice
-    ensures { λ r. ⌜ r ≡ chosen key (take count (bare slots)) ⌝ }
+fn one_pass(slots: [Slot; 4], count: u8, key: Key) -> Searched
+    ensures { λ r. ⌜ r ≡ searched key (take count (bare slots)) ⌝ }
 {
+    let lane = key.lane;
     let used = count as usize;
-    let mut sofar = Choice::NoRoom;
+    let mut choice = Choice::NoRoom;
+    let mut active: u8 = 0;
     let mut i: usize = 0;
     while i < 4 {
         if used <= i {
-            return sofar;
+            return Searched { choice, active };
         }
         let slot = slots[i];
-        sofar = look(sofar, slot.standing(key), BufferNumber(i as u8));
+        choice = look(choice, slot.standing(key), BufferNumber(i as u8));
+        active += bit_of(slot.is_active_in(lane));
         i += 1;
     }
-    sofar
+    Searched { choice, active }
+}
+
+// Whether a lane that holds so many of the buffers pending or ready may store one more.
+fn may_store(count: u8, active: u8) -> bool
+    ensures { λ r. ⌜ r ≡ mayStore count active ⌝ }
+{
+    (active as usize) + 1 < count as usize
+}
+
+impl Choice {
+    // What is chosen where the lane may store, or may not.
+    fn limited(self, may: bool) -> Choice
+        ensures { λ r. ⌜ r ≡ limited may self ⌝ }
+    {
+        if may {
+            return self;
+        }
+        match self {
+            Choice::NoRoom => Choice::LimitReached,
+            Choice::LimitReached => Choice::LimitReached,
+            Choice::Held(n) => Choice::Held(n),
+            Choice::Reused(_) => Choice::LimitReached,
+            Choice::Took(_) => Choice::LimitReached,
+        }
+    }
+}
+
+// What a start-split under the key does.
+pub fn choose(slots: [Slot; 4], count: u8, key: Key) -> Choice
+    ensures { λ r. ⌜ r ≡ permitted count key (take count (bare slots)) ⌝ }
+{
+    let found = one_pass(slots, count, key);
+    let choice = found.choice;
+    choice.limited(may_store(count, found.active))
 }
 
 // The buffer that holds a key.
 pub fn holder(slots: [Slot; 4], count: u8, key: Key) -> Found
     ensures { λ r. ⌜ r ≡ find (holds key) (take count (bare slots)) ⌝ }
 {
-    match choose(slots, count, key) {
-        Choice::NoRoom => Found::Nowhere,
-        Choice::Held(n) => Found::At(n),
-        Choice::Reused(n) => Found::At(n),
-        Choice::Took(_) => Found::Nowhere,
+    let used = count as usize;
+    let mut i: usize = 0;
+    while i < 4 {
+        if used <= i {
+            return Found::Nowhere;
+        }
+        let slot = slots[i];
+        if slot.holds(key) {
+            return Found::At(BufferNumber(i as u8));
+        }
+        i += 1;
     }
+    Found::Nowhere
 }
 
 // ---- the order of acceptance
@@ -303,7 +359,7 @@ impl Translator {
     }
 
     fn choose(self, key: Key) -> Choice
-        ensures { λ r. ⌜ r ≡ chosen key (take (self .count) (self .buffers)) ⌝ }
+        ensures { λ r. ⌜ r ≡ permitted (self .count) key (take (self .count) (self .buffers)) ⌝ }
     {
         choose(self.slots(), self.count, key)
     }
@@ -410,6 +466,10 @@ impl Translator {
                 Choice::NoRoom => Started {
                     next: self,
                     answer: StartAnswer::Chosen(Choice::NoRoom),
+                },
+                Choice::LimitReached => Started {
+                    next: self,
+                    answer: StartAnswer::Chosen(Choice::LimitReached),
                 },
                 Choice::Held(n) => Started {
                     next: self,
@@ -576,6 +636,55 @@ impl Translator {
             }
         }
     }
+}
+
+impl Translator {
+    // ResetTT from a lane.
+    pub fn reset_lane(self, lane: Lane) -> Translator
+        ensures { λ r. ⌜ r ≡ resetLane self lane ⌝ }
+    {
+        let old = self.buffers;
+        let low = self.low;
+        let b0 = without_lane(old[0], lane);
+        let b1 = without_lane(old[1], lane);
+        let b2 = without_lane(old[2], lane);
+        let b3 = without_lane(old[3], lane);
+        let next = self.low_without_lane(lane, low);
+        Translator {
+            buffers: [b0, b1, b2, b3],
+            count: self.count,
+            low: next,
+        }
+    }
+
+    // The low side once the lane's buffers are emptied.
+    fn low_without_lane(self, lane: Lane, low: LowSide) -> LowSide
+        ensures { λ r. ⌜ r ≡ lowWithoutLane lane (self .buffers) low ⌝ }
+    {
+        match low {
+            LowSide::Idle => LowSide::Idle,
+            LowSide::Running(n) => {
+                let b = self.buffer(n);
+                let running = b.slot;
+                if running.is_in(lane) {
+                    return LowSide::Abandoned;
+                }
+                LowSide::Running(n)
+            }
+            LowSide::Abandoned => LowSide::Abandoned,
+        }
+    }
+}
+
+// Empty, if it was the lane's.
+fn without_lane(b: Buffer, lane: Lane) -> Buffer
+    ensures { λ r. ⌜ r ≡ withoutLane lane b ⌝ }
+{
+    let slot = b.slot;
+    if slot.is_in(lane) {
+        return Buffer::vacant();
+    }
+    b
 }
 
 // What comes with a result: data its payload, a handshake none.

@@ -24,6 +24,7 @@ pub struct Answer {
     pub bytes: Vec<u8>,
     pub pid: u8,
     pub transfer: u8,
+    pub lane: u8,
     pub address: u8,
     pub endpoint: u8,
     pub direction: u8,

@@ -6,7 +6,9 @@ use crate::hub::{Call, Hub, StartNumbers};
 use crate::library::NewNumbers;
 use crate::port::{Change, Event, Port, Speed, State, RESET_END, RESUME_END};
 use crate::random::Random;
-use crate::translator::{Buffer, LowSide, Outcome, Start, Toggle, Token, Transfer, Translator};
+use crate::translator::{
+    Buffer, Direction, Key, Lane, LowSide, Outcome, Start, Toggle, Token, Transfer, Translator,
+};
 
 /// What a session mostly does.
 #[derive(Clone, Copy)]
@@ -19,11 +21,17 @@ enum Style {
 pub struct Chooser {
     pub random: Random,
     style: Style,
+    /// The lanes that calls come from, the busier one more often.
+    lanes: &'static [Lane],
     /// The addresses and endpoints that splits mostly use.
     pairs: Vec<(u32, u32)>,
     /// Ticks still to come in a row.
     ticks: usize,
 }
+
+const EVEN_LANES: &[Lane] = &Lane::ALL;
+const BUSY_ZERO: &[Lane] = &[Lane::Zero, Lane::Zero, Lane::Zero, Lane::Zero, Lane::One];
+const BUSY_ONE: &[Lane] = &[Lane::One, Lane::One, Lane::One, Lane::One, Lane::Zero];
 
 const SET_FEATURES: [u8; 3] = [2, 4, 8];
 const CLEAR_FEATURES: [u8; 8] = [1, 2, 8, 16, 17, 18, 19, 20];
@@ -31,12 +39,19 @@ const RESULTS: [u32; 6] = [0, 2, 3, 10, 11, 14];
 
 impl Chooser {
     pub fn new(seed: u64) -> Chooser {
-        Chooser { random: Random::new(seed), style: Style::Mixed, pairs: Vec::new(), ticks: 0 }
+        Chooser {
+            random: Random::new(seed),
+            style: Style::Mixed,
+            lanes: EVEN_LANES,
+            pairs: Vec::new(),
+            ticks: 0,
+        }
     }
 
     /// Begins a session: the numbers of its new hub.
     pub fn session(&mut self) -> NewNumbers {
         self.style = self.random.pick(&[Style::Mixed, Style::Ports, Style::Splits]);
+        self.lanes = self.random.pick(&[EVEN_LANES, EVEN_LANES, BUSY_ZERO, BUSY_ONE]);
         let addresses = [0, 1, 5, 6, 126, 127];
         let endpoints = [0, 1, 2, 15];
         self.pairs = (0..self.random.within(2..=5))
@@ -122,9 +137,9 @@ impl Chooser {
             23..=24 => self.request([0x23, 0x09, 0, 0, 1, 0, 0, 0]),
             25..=26 => {
                 let setup = self.random.bytes(8);
-                Call::Control { setup, space: self.space() }
+                Call::Control { lane: self.any_lane(), setup, space: self.space() }
             }
-            _ => Call::Poll { space: self.space() },
+            _ => Call::Poll { lane: self.any_lane(), space: self.space() },
         }
     }
 
@@ -177,17 +192,39 @@ impl Chooser {
     fn split_call(&mut self, hub: &Hub) -> Call {
         let (address, endpoint) = self.pair();
         match self.random.below(100) {
-            0..=24 => self.start_split(address, endpoint),
-            25..=46 => Call::Launch { space: self.space() },
-            47..=71 => self.deliver(hub),
-            72..=94 => self.complete_split(hub, address, endpoint),
-            95 if self.random.one_in(2) => self.request([0x23, 0x09, 0, 0, 1, 0, 0, 0]),
+            0..=27 => self.start_split(hub, address, endpoint),
+            28..=48 => Call::Launch { space: self.space() },
+            49..=72 => self.deliver(hub),
+            73..=94 => self.complete_split(hub, address, endpoint),
+            95 => self.request([0x23, 0x09, 0, 0, 1, 0, 0, 0]),
             _ => self.clear_buffer(hub, address, endpoint),
         }
     }
 
-    fn start_split(&mut self, address: u32, endpoint: u32) -> Call {
-        let pid = self.number(|random| random.pick(&[1, 1, 9, 9, 9, 13]), 13);
+    /// Sometimes for a key that a buffer holds, mostly for one of an old
+    /// buffer of a lane that is at its limit.
+    fn start_split(&mut self, hub: &Hub, address: u32, endpoint: u32) -> Call {
+        let held = match limited_key(hub) {
+            Some(key) if self.random.one_in(2) => Some(key),
+            _ => self.held_key(hub).filter(|_| self.random.one_in(3)),
+        };
+        match held {
+            Some(key) => {
+                let pids: &[u32] = match key.direction {
+                    Direction::In => &[9],
+                    Direction::Out => &[1, 13],
+                };
+                self.start_numbers(key.lane as u32, pids, key.address.into(), key.endpoint.into())
+            }
+            None => {
+                let lane = self.any_lane();
+                self.start_numbers(lane, &[1, 1, 9, 9, 9, 13], address, endpoint)
+            }
+        }
+    }
+
+    fn start_numbers(&mut self, lane: u32, pids: &[u32], address: u32, endpoint: u32) -> Call {
+        let pid = self.number(|random| random.pick(pids), 13);
         let transfer = match pid {
             13 if !self.random.one_in(20) => 0,
             _ => self.number(|random| random.pick(&[0, 2]), 2),
@@ -199,6 +236,7 @@ impl Chooser {
             _ => 0,
         };
         let numbers = StartNumbers {
+            lane,
             pid,
             transfer,
             low_speed: self.number(|random| random.below(2) as u32, 1),
@@ -212,23 +250,24 @@ impl Chooser {
     /// Mostly for a key that a buffer holds.
     fn complete_split(&mut self, hub: &Hub, address: u32, endpoint: u32) -> Call {
         let space = self.space();
-        let buffer = self.random.pick(&hub.translator.buffers);
-        match buffer.key().filter(|_| !self.random.one_in(3)) {
+        match self.held_key(hub).filter(|_| !self.random.one_in(3)) {
             Some(key) => Call::CompleteSplit {
+                lane: key.lane as u32,
                 address: key.address.into(),
                 endpoint: key.endpoint.into(),
                 direction: key.direction as u32,
                 space,
             },
             None => {
+                let lane = self.any_lane();
                 let direction = self.number(|random| random.below(2) as u32, 1);
-                Call::CompleteSplit { address, endpoint, direction, space }
+                Call::CompleteSplit { lane, address, endpoint, direction, space }
             }
         }
     }
 
     fn deliver(&mut self, hub: &Hub) -> Call {
-        let suiting: &[u32] = match hub.translator.running() {
+        let suiting: &[u32] = match hub.translator.running().map(|start| start.token) {
             Some(Token::In) => &[3, 3, 11, 11, 10, 14, 0],
             Some(Token::Out) => &[2, 2, 10, 14, 0],
             Some(Token::Setup) => &[2, 0],
@@ -247,22 +286,28 @@ impl Chooser {
     }
 
     fn clear_buffer(&mut self, hub: &Hub, address: u32, endpoint: u32) -> Call {
+        let mut lane = self.any_lane();
         let (mut address, mut endpoint) = (address & 127, endpoint & 15);
         let mut direction = self.random.below(2) as u32;
-        if let (LowSide::Running(number), false) = (hub.translator.low_side, self.random.one_in(3))
-        {
-            if let Some(key) = hub.translator.buffers[number].key() {
-                (address, endpoint) = (key.address.into(), key.endpoint.into());
-                direction = key.direction as u32;
-            }
+        let running = hub.translator.running().map(Start::key);
+        if let Some(key) = running.filter(|_| !self.random.one_in(3)) {
+            let key = self.mostly_own(key);
+            lane = key.lane as u32;
+            (address, endpoint) = (key.address.into(), key.endpoint.into());
+            direction = key.direction as u32;
         }
         let kind = self.random.pick(&[0, 2, 0, 2, 0, 2, 1, 3]);
         let value = endpoint | address << 4 | kind << 11 | direction << 15;
-        self.request([0x23, 0x08, value as u8, (value >> 8) as u8, 1, 0, 0, 0])
+        self.request_from(lane, [0x23, 0x08, value as u8, (value >> 8) as u8, 1, 0, 0, 0])
+    }
+
+    fn request(&mut self, setup: [u8; 8]) -> Call {
+        let lane = self.any_lane();
+        self.request_from(lane, setup)
     }
 
     /// The request, sometimes with one field wrong or a wrong length.
-    fn request(&mut self, mut setup: [u8; 8]) -> Call {
+    fn request_from(&mut self, lane: u32, mut setup: [u8; 8]) -> Call {
         if self.random.one_in(15) {
             let place = self.random.below(8);
             setup[place] = match self.random.below(3) {
@@ -275,7 +320,7 @@ impl Chooser {
         if self.random.one_in(60) {
             setup.resize(self.random.pick(&[0, 1, 7, 9, 16]), 0);
         }
-        Call::Control { setup, space: self.space() }
+        Call::Control { lane, setup, space: self.space() }
     }
 
     fn event(&mut self, event: u32, port: usize) -> Call {
@@ -286,6 +331,26 @@ impl Chooser {
 
     fn port(&mut self, hub: &Hub) -> usize {
         self.random.within(1..=hub.ports.len())
+    }
+
+    fn any_lane(&mut self) -> u32 {
+        let lane = self.random.pick(self.lanes) as u32;
+        self.number(|_| lane, 1)
+    }
+
+    /// The key of a buffer, sometimes in the other lane.
+    fn held_key(&mut self, hub: &Hub) -> Option<Key> {
+        let buffers = &hub.translator.buffers;
+        let key = buffers[self.random.below(buffers.len())].key()?;
+        Some(self.mostly_own(key))
+    }
+
+    fn mostly_own(&mut self, key: Key) -> Key {
+        if self.random.one_in(6) {
+            key.twin()
+        } else {
+            key
+        }
     }
 
     fn pair(&mut self) -> (u32, u32) {
@@ -368,6 +433,7 @@ impl Chooser {
             _ => self.random.pick(&[Transfer::Control, Transfer::Bulk]),
         };
         let start = Start {
+            lane: self.random.pick(&Lane::ALL),
             token,
             transfer,
             low_speed: self.random.one_in(2),
@@ -436,6 +502,14 @@ impl Chooser {
                 }
                 (area, Damage::Several)
             }
+            2 => {
+                let number = random.below(hub.translator.buffers.len());
+                let damage = damage::lane_flip(hub, number);
+                if !matches!(damage, Damage::None) {
+                    area[form::flags(hub, number)] ^= form::LANE_BIT;
+                }
+                (area, damage)
+            }
             _ => {
                 let before = area.clone();
                 let place = damage_byte(random, &mut area);
@@ -447,6 +521,14 @@ impl Chooser {
             }
         }
     }
+}
+
+/// The key of an old buffer whose lane is at its limit.
+fn limited_key(hub: &Hub) -> Option<Key> {
+    let translator = &hub.translator;
+    let mut old = translator.buffers.iter().filter(|buffer| buffer.is_free());
+    let key = old.find_map(Buffer::key)?;
+    (translator.held(key.lane) == translator.limit()).then_some(key)
 }
 
 /// Changes one byte, mostly in the header, a port or the head of a buffer.

@@ -90,8 +90,11 @@ impl Run<'_> {
         Ok(area)
     }
 
-    /// A call on a damaged copy of the area.
+    /// A call on a damaged copy of the area, or of an area that the session
+    /// didn't reach.
     fn damaged_call(&mut self, hub: &Hub) -> Result<(), String> {
+        let unreached = self.chooser.random.one_in(4).then(|| self.chooser.hub());
+        let hub = unreached.as_ref().unwrap_or(hub);
         let (area, damage) = self.chooser.damaged(hub);
         let call = self.chooser.any_call(hub);
         let taken = self.separate_call(&area, &call)?;
@@ -205,6 +208,7 @@ fn raw(answer: &Answer) -> RawAnswer {
         length: answer.bytes.len() as u8,
         pid: answer.pid,
         transfer: answer.transfer,
+        lane: answer.lane,
         address: answer.address,
         endpoint: answer.endpoint,
         direction: answer.direction,

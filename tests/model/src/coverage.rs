@@ -4,6 +4,7 @@
 use crate::answer::{self, Answer};
 use crate::damage::{Damage, FIELDS};
 use crate::hub::{Call, Hub};
+use crate::lanes;
 use crate::port::{ClearFeature, Port, SetFeature, State};
 use crate::request::Request;
 use crate::situations::SITUATIONS;
@@ -48,6 +49,12 @@ pub struct Coverage {
     keys: Table,
     answers: Table,
     damage: Table,
+    carriers: Table,
+    outside: Table,
+    requests: Table,
+    lanes: Table,
+    choices: Table,
+    crowded: Table,
     situations: Table,
 }
 
@@ -120,6 +127,65 @@ const REQUESTS: &[&str] = &[
     "ClearTTBuffer",
     "ResetTT",
     "other setup bytes",
+];
+
+const UNREACHABLE_BY_LANE: [Unreachable; 5] = [
+    Unreachable {
+        rows: &["control, lane 0", "control, lane 1"],
+        columns: &["3", "4", "5", "8", "9"],
+        reason: "a control request is done, gives data or is stalled, in every state",
+    },
+    Unreachable {
+        rows: &["poll, lane 0", "poll, lane 1"],
+        columns: &["0", "2", "4", "8", "9"],
+        reason: "a poll gives a bitmap or NAK",
+    },
+    Unreachable {
+        rows: &["start-split, lane 0", "start-split, lane 1"],
+        columns: &["1", "2", "4", "7", "8", "9"],
+        reason: "a start-split is acknowledged or gets NAK, and takes no reply space",
+    },
+    Unreachable {
+        rows: &["complete-split, lane 0", "complete-split, lane 1"],
+        columns: &["0", "3", "8"],
+        reason: "a complete-split gives STALL, NYET, data or a handshake",
+    },
+    Unreachable {
+        rows: &[
+            "control, no lane",
+            "poll, no lane",
+            "start-split, no lane",
+            "complete-split, no lane",
+        ],
+        columns: &["0", "1", "2", "3", "4", "5", "7", "8", "9"],
+        reason: "a lane outside 0 and 1 comes first",
+    },
+];
+
+const UNREACHABLE_LANE_STATES: [Unreachable; 2] = [
+    Unreachable {
+        rows: &["launch, lane 0", "launch, lane 1"],
+        columns: &["runs", "o-runs", "abandon"],
+        reason: "nothing is launched while the low side is occupied",
+    },
+    Unreachable {
+        rows: &["deliver, lane 0", "deliver, lane 1"],
+        columns: &["idle", "o-runs", "abandon"],
+        reason: "the lane is that of the running transaction",
+    },
+];
+
+const UNREACHABLE_CHOICES: [Unreachable; 2] = [
+    Unreachable {
+        rows: &["lane 0, 2 buf", "lane 1, 2 buf"],
+        columns: &["repeat"],
+        reason: "a lane with one buffer is at the limit",
+    },
+    Unreachable {
+        rows: &["lane 0, 2 buf", "lane 1, 2 buf"],
+        columns: &["full"],
+        reason: "below the limit a lane holds none, and the other at most one",
+    },
 ];
 
 const ANSWERS: [&str; answer::COUNT] = ["0", "1", "2", "3", "4", "5", "6", "7", "8", "9"];
@@ -198,26 +264,40 @@ const UNREACHABLE_ANSWERS: [Unreachable; 12] = [
 const TRANSLATOR_STATES: [&str; 8] =
     ["unconf", "idle", "running", "abandon", "empty", "pending", "ready", "old"];
 
-const KEY_CALLS: [&str; 7] = [
-    "start-split IN",
-    "start-split OUT",
-    "start-split SETUP",
-    "complete-split IN",
-    "complete-split OUT",
-    "ClearTTBuffer IN",
-    "ClearTTBuffer OUT",
+/// By call, PID or direction, and lane.
+const KEY_CALLS: [[&str; 2]; 7] = [
+    ["start-split IN, lane 0", "start-split IN, lane 1"],
+    ["start-split OUT, lane 0", "start-split OUT, lane 1"],
+    ["start-split SETUP, lane 0", "start-split SETUP, lane 1"],
+    ["complete-split IN, lane 0", "complete-split IN, lane 1"],
+    ["complete-split OUT, lane 0", "complete-split OUT, lane 1"],
+    ["ClearTTBuffer IN, lane 0", "ClearTTBuffer IN, lane 1"],
+    ["ClearTTBuffer OUT, lane 0", "ClearTTBuffer OUT, lane 1"],
 ];
 
-/// The buffer with the call's key: none though one is free, none and none
-/// free, waiting to be launched, running, ready, old.
-const KEY_STATES: [&str; 6] = ["none", "full", "waiting", "running", "ready", "old"];
+/// The buffer with the call's key: none but the other lane's, none though one
+/// is free, none and none free, waiting to be launched, running, ready, old.
+const KEY_STATES: [&str; 7] = ["other's", "none", "full", "waiting", "running", "ready", "old"];
 
 const DAMAGE_ENDS: [&str; 2] = ["refused", "taken"];
 const SEVERAL: &str = "several bytes";
 const LENGTH: &str = "length";
 const UNREACHED: &str = "permitted, not reached";
+const LANE: &str = "lane bit, room in the lane";
+const TWIN: &str = "lane bit, key held twice";
+const CROWDED: &str = "lane bit, lane crowded";
 
-const UNREACHABLE_DAMAGE: [Unreachable; 7] = [
+const UNREACHABLE_DAMAGE: [Unreachable; 9] = [
+    Unreachable {
+        rows: &[LANE],
+        columns: &["refused"],
+        reason: "the lane may hold one more buffer of a key of its own",
+    },
+    Unreachable {
+        rows: &[TWIN, CROWDED],
+        columns: &["taken"],
+        reason: "no key is held twice, and no lane holds all buffers",
+    },
     Unreachable {
         rows: &["ports", "buffers", LENGTH],
         columns: &["taken"],
@@ -257,7 +337,8 @@ const UNREACHABLE_DAMAGE: [Unreachable; 7] = [
 
 impl Coverage {
     pub fn new() -> Coverage {
-        let damage_rows = FIELDS.iter().copied().chain([SEVERAL, LENGTH, UNREACHED]);
+        let damage_rows =
+            FIELDS.iter().copied().chain([LANE, TWIN, CROWDED, SEVERAL, LENGTH, UNREACHED]);
         let situation_rows = SITUATIONS.iter().map(|(name, _)| *name);
         Coverage {
             hubs: Table::new("Session calls by size of the hub", PORT_COUNTS, BUFFER_COUNTS)
@@ -268,13 +349,39 @@ impl Coverage {
                 CALLS.into_iter().filter(|&call| call != "new"),
                 TRANSLATOR_STATES,
             ),
-            keys: Table::new("Keys: answers by call and the key's buffer", KEY_CALLS, KEY_STATES),
+            keys: Table::new(
+                "Keys: answers by call and the key's buffer",
+                KEY_CALLS.into_iter().flatten(),
+                KEY_STATES,
+            ),
             answers: Table::new("Calls by answer", CALLS, ANSWERS)
                 .showing_visits()
                 .without(UNREACHABLE_ANSWERS),
             damage: Table::new("Changed areas", damage_rows, DAMAGE_ENDS)
                 .showing_visits()
                 .without(UNREACHABLE_DAMAGE),
+            carriers: Table::new("Calls by lane and answer", lanes::CARRIERS_BY_LANE, ANSWERS)
+                .showing_visits()
+                .without(UNREACHABLE_BY_LANE),
+            outside: Table::new("Lanes outside 0 and 1", lanes::CARRIERS, lanes::OUTSIDE),
+            requests: Table::new(
+                "Requests: answers by lane",
+                REQUESTS.iter().copied(),
+                lanes::LANE_NUMBERS,
+            ),
+            lanes: Table::new(
+                "Lanes: answers by call and state of the lane and the other (o-)",
+                lanes::LANE_CALLS,
+                lanes::LANE_STATES,
+            )
+            .without(UNREACHABLE_LANE_STATES),
+            choices: Table::new(
+                "Start-splits: answers by lane and choice",
+                lanes::START_SPLITS,
+                lanes::CHOICES,
+            )
+            .without(UNREACHABLE_CHOICES),
+            crowded: Table::new("Crowded areas", lanes::LANES, BUFFER_COUNTS).showing_visits(),
             situations: Table::new("Situations", situation_rows, ["visits"]).showing_visits(),
         }
     }
@@ -289,28 +396,53 @@ impl Coverage {
             return;
         }
         for (input, port) in port_inputs(step) {
-            self.ports.visit(input, port_state(port), number);
+            self.ports.count(input, port_state(port), number);
         }
-        for state in translator_states(step.before) {
-            self.translator.visit(call_name(step.call), state, number);
+        let row = self.translator.row(call_name(step.call));
+        for column in translator_states(step.before) {
+            self.translator.count(row, column, number);
         }
         if step.before.configured {
-            if let Some((call, key)) = key_call(step) {
-                self.keys.visit(call, key_state(step.before, key), number);
+            self.lanes(step);
+        }
+    }
+
+    fn lanes(&mut self, step: &Step) {
+        let (hub, number) = (step.before, step.answer.number);
+        if let Some((call, key)) = key_call(step) {
+            self.keys.visit(call, key_state(hub, key), number);
+            if matches!(step.call, Call::StartSplit { .. }) {
+                let row = lanes::start_split(&hub.translator, key.lane);
+                self.choices.visit(row, lanes::choice(&hub.translator, key), number);
+            }
+        }
+        if let Some((row, lane)) = lanes::lane_call(step) {
+            for column in lanes::lane_states(hub, lane) {
+                self.lanes.count(row, column, number);
             }
         }
     }
 
     fn situations(&mut self, step: &Step) {
-        for (name, met) in SITUATIONS {
+        for (row, (_, met)) in SITUATIONS.iter().enumerate() {
             if met(step) {
-                self.situations.visit(name, "visits", step.answer.number);
+                self.situations.count(row, 0, step.answer.number);
             }
         }
     }
 
     pub fn answer(&mut self, call: &Call, answer: &Answer) {
-        self.answers.visit(call_name(call), ANSWERS[usize::from(answer.number)], answer.number);
+        let (name, number) = (call_name(call), answer.number);
+        self.answers.visit(name, ANSWERS[usize::from(number)], number);
+        let Some((carrier, lane)) = lanes::carrier(call) else { return };
+        let place = lanes::lane_number(lane);
+        self.carriers.count(3 * carrier + place, number.into(), number);
+        if let Some(outside) = lanes::outside(lane) {
+            self.outside.count(carrier, outside, number);
+        }
+        if matches!(call, Call::Control { .. }) {
+            self.requests.visit(name, lanes::LANE_NUMBERS[place], number);
+        }
     }
 
     pub fn new_hub(&mut self, answer: &Answer) {
@@ -321,6 +453,12 @@ impl Coverage {
         let row = match damage {
             Damage::None => return,
             Damage::Byte(field) => FIELDS[*field],
+            Damage::Lane => LANE,
+            Damage::Twin => TWIN,
+            Damage::Crowded(lane, buffers) => {
+                self.crowded.visit(lanes::LANES[*lane as usize], BUFFER_COUNTS[buffers - 2], 0);
+                CROWDED
+            }
             Damage::Several => SEVERAL,
             Damage::Length => LENGTH,
         };
@@ -331,7 +469,7 @@ impl Coverage {
         self.damage.visit(UNREACHED, DAMAGE_ENDS[usize::from(taken)], 0);
     }
 
-    fn tables(&self) -> [&Table; 7] {
+    fn tables(&self) -> [&Table; 13] {
         [
             &self.hubs,
             &self.ports,
@@ -339,6 +477,12 @@ impl Coverage {
             &self.keys,
             &self.answers,
             &self.damage,
+            &self.carriers,
+            &self.outside,
+            &self.requests,
+            &self.lanes,
+            &self.choices,
+            &self.crowded,
             &self.situations,
         ]
     }
@@ -381,9 +525,16 @@ impl Table {
         Table { unreachable: unreachable.into_iter().collect(), ..self }
     }
 
+    fn row(&self, row: &str) -> usize {
+        self.rows.iter().position(|&name| name == row).expect("a row's name")
+    }
+
     fn visit(&mut self, row: &str, column: &str, answer: u8) {
-        let row = self.rows.iter().position(|&name| name == row).expect("a row's name");
         let column = self.columns.iter().position(|&name| name == column).expect("a column's name");
+        self.count(self.row(row), column, answer);
+    }
+
+    fn count(&mut self, row: usize, column: usize, answer: u8) {
         self.cells[row][column][usize::from(answer)] += 1;
     }
 
@@ -471,7 +622,7 @@ impl Table {
 }
 
 /// The eight setup bytes of a control request.
-fn setup(call: &Call) -> Option<&[u8; 8]> {
+pub fn setup(call: &Call) -> Option<&[u8; 8]> {
     match call {
         Call::Control { setup, .. } => setup.as_slice().try_into().ok(),
         _ => None,
@@ -480,7 +631,7 @@ fn setup(call: &Call) -> Option<&[u8; 8]> {
 
 /// The request, whether the hub serves it or not.
 pub fn request(call: &Call) -> Option<Request> {
-    setup(call).and_then(Request::read)
+    Request::read(lanes::carried(call)?, setup(call)?)
 }
 
 fn call_name(call: &Call) -> &'static str {
@@ -509,18 +660,18 @@ fn call_name(call: &Call) -> &'static str {
     }
 }
 
-/// The inputs that the call gives to ports.
-fn port_inputs<'a>(step: &Step<'a>) -> Vec<(&'static str, &'a Port)> {
+/// The inputs that the call gives to ports, as places in `PORT_INPUTS`.
+fn port_inputs<'a>(step: &Step<'a>) -> Vec<(usize, &'a Port)> {
     let ports = &step.before.ports;
     let named = |input: usize, port: usize| {
         port.checked_sub(1)
             .and_then(|place| ports.get(place))
-            .map(|port| (PORT_INPUTS[input], port))
+            .map(|port| (input, port))
             .into_iter()
             .collect()
     };
     match step.call {
-        Call::Tick => ports.iter().map(|port| ("tick", port)).collect(),
+        Call::Tick => ports.iter().map(|port| (8, port)).collect(),
         Call::LineEvent { event, port } => named(*event as usize, *port as usize),
         _ => match request(step.call) {
             Some(Request::SetPortFeature(feature, port)) => {
@@ -545,7 +696,8 @@ fn port_inputs<'a>(step: &Step<'a>) -> Vec<(&'static str, &'a Port)> {
     }
 }
 
-fn port_state(port: &Port) -> &'static str {
+/// The port's place in `PORT_STATES`.
+fn port_state(port: &Port) -> usize {
     let first = match port.state {
         State::NotConfigured => 0,
         State::PoweredOff => 1 + usize::from(port.over_current),
@@ -556,62 +708,55 @@ fn port_state(port: &Port) -> &'static str {
         State::Suspended(_) => 13,
         State::Resuming(..) => 16,
     };
-    PORT_STATES[first + port.state.speed().map_or(0, |speed| speed as usize)]
+    first + port.state.speed().map_or(0, |speed| speed as usize)
 }
 
-fn translator_states(hub: &Hub) -> Vec<&'static str> {
-    if !hub.configured {
-        return vec!["unconf"];
-    }
+/// The places in `TRANSLATOR_STATES` of what holds.
+fn translator_states(hub: &Hub) -> impl Iterator<Item = usize> + '_ {
     let low_side = match hub.translator.low_side {
-        LowSide::Idle => "idle",
-        LowSide::Running(_) => "running",
-        LowSide::Abandoned => "abandon",
+        _ if !hub.configured => 0,
+        LowSide::Idle => 1,
+        LowSide::Running(_) => 2,
+        LowSide::Abandoned => 3,
     };
     let statuses = hub.translator.buffers.iter().map(|buffer| match buffer {
-        Buffer::Empty => "empty",
-        Buffer::Pending { .. } => "pending",
-        Buffer::Ready(..) => "ready",
-        Buffer::Old(..) => "old",
+        Buffer::Empty => 4,
+        Buffer::Pending { .. } => 5,
+        Buffer::Ready(..) => 6,
+        Buffer::Old(..) => 7,
     });
-    [low_side].into_iter().chain(statuses).collect()
+    [low_side].into_iter().chain(statuses.filter(|_| hub.configured))
 }
 
 fn key_call(step: &Step) -> Option<(&'static str, Key)> {
-    match step.call {
-        Call::StartSplit { numbers, .. } => numbers.understand().map(|start| {
-            let call = match start.token {
-                Token::In => "start-split IN",
-                Token::Out => "start-split OUT",
-                Token::Setup => "start-split SETUP",
+    let (row, key) = match step.call {
+        Call::StartSplit { numbers, .. } => {
+            let start = numbers.understand()?;
+            let row = match start.token {
+                Token::In => 0,
+                Token::Out => 1,
+                Token::Setup => 2,
             };
-            (call, start.key())
-        }),
-        Call::CompleteSplit { address, endpoint, direction, .. } => {
-            Key::from_numbers(*address, *endpoint, *direction).map(|key| {
-                let call = match key.direction {
-                    Direction::In => "complete-split IN",
-                    Direction::Out => "complete-split OUT",
-                };
-                (call, key)
-            })
+            (row, start.key())
         }
-        _ => match request(step.call) {
-            Some(Request::ClearTtBuffer(key)) => {
-                let call = match key.direction {
-                    Direction::In => "ClearTTBuffer IN",
-                    Direction::Out => "ClearTTBuffer OUT",
-                };
-                Some((call, key))
+        Call::CompleteSplit { lane, address, endpoint, direction, .. } => {
+            let key = Key::from_numbers(*lane, *address, *endpoint, *direction)?;
+            (if key.direction == Direction::In { 3 } else { 4 }, key)
+        }
+        _ => match request(step.call)? {
+            Request::ClearTtBuffer(key) => {
+                (if key.direction == Direction::In { 5 } else { 6 }, key)
             }
-            _ => None,
+            _ => return None,
         },
-    }
+    };
+    Some((KEY_CALLS[row][key.lane as usize], key))
 }
 
 fn key_state(hub: &Hub, key: Key) -> &'static str {
     let translator = &hub.translator;
     match translator.find(key) {
+        None if translator.find(key.twin()).is_some() => "other's",
         None if translator.buffers.iter().any(Buffer::is_free) => "none",
         None => "full",
         Some(number) => match translator.buffers[number] {

@@ -2,13 +2,21 @@
 
 use crate::form;
 use crate::hub::Hub;
-use crate::translator::Buffer;
+use crate::translator::{Buffer, Key, Lane};
 
 pub enum Damage {
     /// The area is as it was.
     None,
     /// One byte of this field, see `FIELDS`.
     Byte(usize),
+    /// A lane bit; the key's other lane has room for the buffer.
+    Lane,
+    /// A lane bit; both lanes held the buffer's address, endpoint and
+    /// direction.
+    Twin,
+    /// A lane bit; the lane given holds all buffers of the hub then, so many,
+    /// pending or ready.
+    Crowded(Lane, usize),
     Several,
     Length,
 }
@@ -40,6 +48,20 @@ pub const FIELDS: [&str; 24] = [
     "byte behind the payload",
     "byte of an empty buffer",
 ];
+
+/// What a change of the buffer's lane bit does.  An empty buffer has none.
+pub fn lane_flip(hub: &Hub, number: usize) -> Damage {
+    let translator = &hub.translator;
+    let buffer = &translator.buffers[number];
+    let Some(twin) = buffer.key().map(Key::twin) else { return Damage::None };
+    if translator.find(twin).is_some() {
+        Damage::Twin
+    } else if !buffer.is_free() && translator.held(twin.lane) == translator.limit() {
+        Damage::Crowded(twin.lane, translator.buffers.len())
+    } else {
+        Damage::Lane
+    }
+}
 
 /// The field that the byte at `place` in the hub's written form belongs to.
 pub fn field(hub: &Hub, place: usize) -> usize {

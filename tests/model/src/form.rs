@@ -9,8 +9,16 @@ pub const PORT: usize = 4;
 pub const BUFFER: usize = 72;
 pub const BUFFER_HEAD: usize = 8;
 
+/// The lane's bit in a buffer's flags.
+pub const LANE_BIT: u8 = 4;
+
 pub fn length(ports: usize, buffers: usize) -> usize {
     HEADER + PORT * ports + BUFFER * buffers
+}
+
+/// The place of the buffer's flags in the hub's written form.
+pub fn flags(hub: &Hub, number: usize) -> usize {
+    length(hub.ports.len(), number) + 3
 }
 
 pub fn write(hub: &Hub) -> Vec<u8> {
@@ -21,11 +29,11 @@ pub fn write(hub: &Hub) -> Vec<u8> {
         LowSide::Abandoned => (2, 0),
     };
     let mut area = Vec::with_capacity(length(hub.ports.len(), translator.buffers.len()));
-    area.extend([hub.ports.len() as u8, translator.buffers.len() as u8]);
-    area.extend([hub.power_good, hub.current, hub.removable]);
-    area.extend([hub.configured.into(), low_side, running]);
+    area.extend_from_slice(&[hub.ports.len() as u8, translator.buffers.len() as u8]);
+    area.extend_from_slice(&[hub.power_good, hub.current, hub.removable]);
+    area.extend_from_slice(&[hub.configured.into(), low_side, running]);
     for port in &hub.ports {
-        area.extend(write_port(port));
+        area.extend_from_slice(&write_port(port));
     }
     for buffer in &translator.buffers {
         write_buffer(buffer, &mut area);
@@ -59,10 +67,11 @@ fn write_buffer(buffer: &Buffer, area: &mut Vec<u8>) {
         Buffer::Ready(start, outcome) => (2, start, outcome.number(), outcome.bytes()),
         Buffer::Old(start, outcome) => (3, start, outcome.number(), outcome.bytes()),
     };
-    let flags = u8::from(start.low_speed) + 2 * u8::from(start.toggle);
-    area.extend([status, start.token.number(), start.transfer.number(), flags]);
-    area.extend([start.address, start.endpoint, last, bytes.len() as u8]);
-    area.extend(bytes);
+    let flags =
+        u8::from(start.low_speed) + 2 * u8::from(start.toggle) + LANE_BIT * start.lane as u8;
+    area.extend_from_slice(&[status, start.token.number(), start.transfer.number(), flags]);
+    area.extend_from_slice(&[start.address, start.endpoint, last, bytes.len() as u8]);
+    area.extend_from_slice(bytes);
     area.resize(end, 0);
 }
 
@@ -130,6 +139,7 @@ fn read_buffer(bytes: &[u8]) -> Option<Buffer> {
         return Some(Buffer::Empty);
     }
     let start = StartNumbers {
+        lane: (flags & LANE_BIT != 0).into(),
         pid: pid.into(),
         transfer: transfer.into(),
         low_speed: (flags & 1).into(),

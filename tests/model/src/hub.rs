@@ -3,7 +3,7 @@
 use crate::answer::{self, Answer};
 use crate::port::{Event, Port, State};
 use crate::request::Request;
-use crate::translator::{flag, Key, LowSide, Outcome, Start, Token, Transfer, Translator};
+use crate::translator::{flag, Key, Lane, LowSide, Outcome, Start, Token, Transfer, Translator};
 
 #[derive(Clone, Debug)]
 pub struct Hub {
@@ -19,10 +19,10 @@ pub struct Hub {
 /// of the reply space.
 #[derive(Clone, Debug)]
 pub enum Call {
-    Control { setup: Vec<u8>, space: usize },
-    Poll { space: usize },
+    Control { lane: u32, setup: Vec<u8>, space: usize },
+    Poll { lane: u32, space: usize },
     StartSplit { numbers: StartNumbers, payload: Vec<u8> },
-    CompleteSplit { address: u32, endpoint: u32, direction: u32, space: usize },
+    CompleteSplit { lane: u32, address: u32, endpoint: u32, direction: u32, space: usize },
     Launch { space: usize },
     Deliver { result: u32, payload: Vec<u8> },
     LineEvent { event: u32, port: u32 },
@@ -32,6 +32,7 @@ pub enum Call {
 
 #[derive(Clone, Debug)]
 pub struct StartNumbers {
+    pub lane: u32,
     pub pid: u32,
     pub transfer: u32,
     pub low_speed: u32,
@@ -45,7 +46,7 @@ impl Call {
     pub fn space(&self) -> Option<usize> {
         match *self {
             Call::Control { space, .. }
-            | Call::Poll { space }
+            | Call::Poll { space, .. }
             | Call::CompleteSplit { space, .. }
             | Call::Launch { space } => Some(space),
             _ => None,
@@ -55,7 +56,7 @@ impl Call {
 
 /// A call with its numbers understood.
 enum Ask {
-    Control([u8; 8]),
+    Control(Lane, [u8; 8]),
     Poll,
     Start(Start, Vec<u8>),
     Complete(Key),
@@ -69,6 +70,7 @@ enum Ask {
 impl StartNumbers {
     pub fn understand(&self) -> Option<Start> {
         let start = Start {
+            lane: Lane::from_number(self.lane)?,
             token: Token::from_number(self.pid)?,
             transfer: Transfer::from_number(self.transfer)?,
             low_speed: flag(self.low_speed)?,
@@ -128,11 +130,13 @@ impl Hub {
             }
             LowSide::Idle | LowSide::Abandoned => true,
         };
+        let within_limit = |lane: Lane| self.translator.held(lane) <= self.translator.limit();
         let unconfigured = |port: &Port| port.state == State::NotConfigured;
         self.removable_is_permitted()
             && all_differ(&keys)
             && all_differ(&places)
             && running_is_pending
+            && Lane::ALL.into_iter().all(within_limit)
             && self.ports.iter().all(|port| unconfigured(port) != self.configured)
     }
 
@@ -152,8 +156,10 @@ impl Hub {
 
     fn understand(&self, call: &Call) -> Option<Ask> {
         Some(match call {
-            Call::Control { setup, .. } => Ask::Control(setup.as_slice().try_into().ok()?),
-            Call::Poll { .. } => Ask::Poll,
+            Call::Control { lane, setup, .. } => {
+                Ask::Control(Lane::from_number(*lane)?, setup.as_slice().try_into().ok()?)
+            }
+            Call::Poll { lane, .. } => Lane::from_number(*lane).map(|_| Ask::Poll)?,
             Call::StartSplit { numbers, payload } => {
                 let start = numbers.understand()?;
                 if !start.permits_payload(payload.len()) {
@@ -161,8 +167,8 @@ impl Hub {
                 }
                 Ask::Start(start, payload.clone())
             }
-            Call::CompleteSplit { address, endpoint, direction, .. } => {
-                Ask::Complete(Key::from_numbers(*address, *endpoint, *direction)?)
+            Call::CompleteSplit { lane, address, endpoint, direction, .. } => {
+                Ask::Complete(Key::from_numbers(*lane, *address, *endpoint, *direction)?)
             }
             Call::Launch { .. } => Ask::Launch,
             Call::Deliver { result, payload } => {
@@ -181,7 +187,7 @@ impl Hub {
 
     fn permits(&self, ask: &Ask) -> bool {
         match ask {
-            Ask::Launch => self.translator.low_side == LowSide::Idle,
+            Ask::Launch => self.translator.is_idle(),
             Ask::Deliver(outcome) => self.translator.permits_delivery(outcome),
             Ask::LineEvent(event, place) => self.configured && self.ports[*place].permits(*event),
             _ => true,
@@ -190,7 +196,7 @@ impl Hub {
 
     fn perform(&mut self, ask: Ask) -> Answer {
         match ask {
-            Ask::Control(setup) => self.control(&setup),
+            Ask::Control(lane, setup) => self.control(lane, &setup),
             Ask::Poll => self.poll(),
             Ask::Start(start, payload) => self.translator.start(start, payload),
             Ask::Complete(key) => self.translator.complete(key),
@@ -224,8 +230,8 @@ impl Hub {
     }
 
     /// The request that the hub serves, if these bytes are one.
-    pub fn served(&self, setup: &[u8; 8]) -> Option<Request> {
-        let request = Request::read(setup)?;
+    pub fn served(&self, lane: Lane, setup: &[u8; 8]) -> Option<Request> {
+        let request = Request::read(lane, setup)?;
         let port_exists = match request.port() {
             Some(port) => (1..=self.ports.len()).contains(&usize::from(port)),
             None => true,
@@ -233,8 +239,8 @@ impl Hub {
         (port_exists && (self.configured || request.served_unconfigured())).then_some(request)
     }
 
-    fn control(&mut self, setup: &[u8; 8]) -> Answer {
-        let Some(request) = self.served(setup) else { return Answer::plain(answer::STALL) };
+    fn control(&mut self, lane: Lane, setup: &[u8; 8]) -> Answer {
+        let Some(request) = self.served(lane, setup) else { return Answer::plain(answer::STALL) };
         let port = request.port().map(|port| &mut self.ports[usize::from(port) - 1]);
         match (request, port) {
             (Request::GetConfiguration, _) => return Answer::data(&[self.configured.into()]),
@@ -250,7 +256,7 @@ impl Hub {
             (Request::ClearPortFeature(feature, _), Some(port)) => port.clear(feature),
             (Request::SetPortFeature(feature, _), Some(port)) => port.set(feature),
             (Request::ClearTtBuffer(key), _) => self.translator.clear(key),
-            (Request::ResetTt, _) => self.translator.stop(),
+            (Request::ResetTt(lane), _) => self.translator.reset(lane),
             (request, None) => unreachable!("{request:?} names a port"),
         }
         Answer::plain(answer::DONE)

@@ -12,6 +12,7 @@ pub struct RawAnswer {
     pub length: u8,
     pub pid: u8,
     pub transfer: u8,
+    pub lane: u8,
     pub address: u8,
     pub endpoint: u8,
     pub direction: u8,
@@ -23,10 +24,10 @@ pub struct RawAnswer {
 extern "C" {
     fn grimholdi_area_length(ports: u32, buffers: u32) -> usize;
     fn grimholdi_new(area: *mut u8, area_len: usize, ports: u32, buffers: u32, power_good: u32, current: u32, removable: u32) -> RawAnswer;
-    fn grimholdi_control(area: *mut u8, area_len: usize, setup: *const u8, setup_len: usize, reply: *mut u8, reply_len: usize) -> RawAnswer;
-    fn grimholdi_poll(area: *mut u8, area_len: usize, reply: *mut u8, reply_len: usize) -> RawAnswer;
-    fn grimholdi_start_split(area: *mut u8, area_len: usize, pid: u32, transfer: u32, low_speed: u32, toggle: u32, address: u32, endpoint: u32, payload: *const u8, payload_len: usize) -> RawAnswer;
-    fn grimholdi_complete_split(area: *mut u8, area_len: usize, address: u32, endpoint: u32, direction: u32, reply: *mut u8, reply_len: usize) -> RawAnswer;
+    fn grimholdi_control(area: *mut u8, area_len: usize, lane: u32, setup: *const u8, setup_len: usize, reply: *mut u8, reply_len: usize) -> RawAnswer;
+    fn grimholdi_poll(area: *mut u8, area_len: usize, lane: u32, reply: *mut u8, reply_len: usize) -> RawAnswer;
+    fn grimholdi_start_split(area: *mut u8, area_len: usize, lane: u32, pid: u32, transfer: u32, low_speed: u32, toggle: u32, address: u32, endpoint: u32, payload: *const u8, payload_len: usize) -> RawAnswer;
+    fn grimholdi_complete_split(area: *mut u8, area_len: usize, lane: u32, address: u32, endpoint: u32, direction: u32, reply: *mut u8, reply_len: usize) -> RawAnswer;
     fn grimholdi_launch(area: *mut u8, area_len: usize, reply: *mut u8, reply_len: usize) -> RawAnswer;
     fn grimholdi_deliver(area: *mut u8, area_len: usize, result: u32, payload: *const u8, payload_len: usize) -> RawAnswer;
     fn grimholdi_line_event(area: *mut u8, area_len: usize, event: u32, port: u32) -> RawAnswer;
@@ -119,13 +120,14 @@ impl Library for Linked {
         let (input, input_len) = lent.input.lend();
         unsafe {
             match *call {
-                Call::Control { .. } => {
-                    grimholdi_control(area, area_len, input, input_len, reply, reply_len)
+                Call::Control { lane, .. } => {
+                    grimholdi_control(area, area_len, lane, input, input_len, reply, reply_len)
                 }
-                Call::Poll { .. } => grimholdi_poll(area, area_len, reply, reply_len),
+                Call::Poll { lane, .. } => grimholdi_poll(area, area_len, lane, reply, reply_len),
                 Call::StartSplit { ref numbers, .. } => grimholdi_start_split(
                     area,
                     area_len,
+                    numbers.lane,
                     numbers.pid,
                     numbers.transfer,
                     numbers.low_speed,
@@ -135,9 +137,9 @@ impl Library for Linked {
                     input,
                     input_len,
                 ),
-                Call::CompleteSplit { address, endpoint, direction, .. } => {
+                Call::CompleteSplit { lane, address, endpoint, direction, .. } => {
                     grimholdi_complete_split(
-                        area, area_len, address, endpoint, direction, reply, reply_len,
+                        area, area_len, lane, address, endpoint, direction, reply, reply_len,
                     )
                 }
                 Call::Launch { .. } => grimholdi_launch(area, area_len, reply, reply_len),

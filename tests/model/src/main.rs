@@ -1,5 +1,5 @@
-//! The hub rules of document 01 as a model of their own, compared with the C
-//! library over random calls.
+//! The hub rules of document 01, with the corrections of C-12 and the lanes of
+//! C-18, as a model of their own, compared with the C library over random calls.
 //!
 //! Usage: model [--calls N] [--seed S] [--partial] [--self-check]
 //!
@@ -15,6 +15,8 @@ mod coverage;
 mod damage;
 mod form;
 mod hub;
+mod lane_mistakes;
+mod lanes;
 mod library;
 mod mistakes;
 mod port;

@@ -3,6 +3,7 @@
 use crate::answer;
 use crate::form;
 use crate::hub::Call;
+use crate::lane_mistakes as lanes;
 use crate::library::{Guarded, Lent, Library, Linked, NewNumbers, RawAnswer};
 
 /// Makes the call on the linked library, with the mistake.
@@ -26,6 +27,38 @@ pub const MISTAKES: &[(&str, Mistaken)] = &[
     ("an unused mark ignored", Mistaken(mark_ignored)),
     ("a field given that does not apply", Mistaken(field_given)),
     ("a failure not shown as STALL", Mistaken(failure_shown)),
+    ("lane ignored by a complete-split's key", Mistaken(lanes::complete_without_lane)),
+    ("lane ignored by a start-split's repeat", Mistaken(lanes::repeat_without_lane)),
+    ("lane ignored by a start-split's old buffer", Mistaken(lanes::reuse_without_lane)),
+    ("lane ignored by a ClearTTBuffer's key", Mistaken(lanes::clear_without_lane)),
+    ("limit tested before the repeat", Mistaken(lanes::limit_first)),
+    ("limit counts old buffers", Mistaken(lanes::limit_with_old)),
+    ("limit of B - 2 with four buffers", Mistaken(lanes::limit_too_low)),
+    ("limit of B", Mistaken(lanes::limit_too_high)),
+    ("limit counts both lanes", Mistaken(lanes::limit_of_both)),
+    ("own old buffer passes the limit", Mistaken(lanes::own_old_passes)),
+    ("old buffer of the other lane not taken", Mistaken(lanes::other_old_kept)),
+    ("ResetTT empties both lanes", Mistaken(lanes::reset_of_both)),
+    ("ResetTT keeps old buffers", Mistaken(lanes::reset_keeps_old)),
+    ("ResetTT abandons the other lane's transaction", Mistaken(lanes::other_abandoned)),
+    ("ResetTT stops the low side at once", Mistaken(lanes::own_stopped)),
+    ("ResetTT frees an abandoned low side", Mistaken(lanes::abandoned_freed)),
+    ("ResetTT closes gaps in the places", Mistaken(lanes::reset_closes_gaps)),
+    ("SetConfiguration empties its own lane", Mistaken(lanes::configured_keeps_lane)),
+    ("SetConfiguration abandons the transaction", Mistaken(lanes::configured_abandoned)),
+    ("bus reset empties lane 0", Mistaken(lanes::bus_reset_keeps_lane)),
+    ("launch without its lane", Mistaken(lanes::launch_without_lane)),
+    ("lane given by a complete-split", Mistaken(lanes::lane_given)),
+    ("lane cut to eight bits", Mistaken(lanes::lane_cut)),
+    ("lane of a poll not tested", Mistaken(lanes::lane_of_poll_free)),
+    ("reply space tested before the lane", Mistaken(lanes::space_before_lane)),
+    ("unconfigured hub silent before the lane", Mistaken(lanes::silence_before_lane)),
+    ("setup fields tested before the lane", Mistaken(lanes::fields_before_lane)),
+    ("crowded area taken", Mistaken(lanes::crowded_taken)),
+    ("old buffers crowd an area", Mistaken(lanes::old_crowds)),
+    ("area with a key in both lanes refused", Mistaken(lanes::twins_refused)),
+    ("a flag behind the lane ignored", Mistaken(lanes::flag_ignored)),
+    ("lane of an empty buffer ignored", Mistaken(lanes::empty_lane_ignored)),
 ];
 
 impl Library for Mistaken {
@@ -45,11 +78,11 @@ impl Library for Mistaken {
 fn without_direction(call: &Call, lent: &mut Lent) -> RawAnswer {
     let answer = Linked.call(call, lent);
     match *call {
-        Call::CompleteSplit { address, endpoint, direction, space }
+        Call::CompleteSplit { lane, address, endpoint, direction, space }
             if answer.number == answer::STALL =>
         {
             let direction = 1 - direction;
-            Linked.call(&Call::CompleteSplit { address, endpoint, direction, space }, lent)
+            Linked.call(&Call::CompleteSplit { lane, address, endpoint, direction, space }, lent)
         }
         _ => answer,
     }

@@ -1,7 +1,7 @@
 //! Control requests as eight setup bytes.
 
 use crate::port::{Change, ClearFeature, SetFeature};
-use crate::translator::{Direction, Key};
+use crate::translator::{Direction, Key, Lane};
 
 #[derive(Clone, Debug, PartialEq, Eq)]
 pub enum Request {
@@ -14,13 +14,13 @@ pub enum Request {
     ClearPortFeature(ClearFeature, u16),
     SetPortFeature(SetFeature, u16),
     ClearTtBuffer(Key),
-    ResetTt,
+    ResetTt(Lane),
 }
 
 impl Request {
     /// None if the bytes are no request of the table.  Whether the port exists
-    /// isn't tested here.
-    pub fn read(setup: &[u8; 8]) -> Option<Request> {
+    /// isn't tested here.  The lane is the caller's.
+    pub fn read(lane: Lane, setup: &[u8; 8]) -> Option<Request> {
         let word = |at: usize| u16::from_le_bytes([setup[at], setup[at + 1]]);
         let (value, index, length) = (word(2), word(4), word(6));
         match (setup[0], setup[1], value, index, length) {
@@ -36,8 +36,8 @@ impl Request {
             (0x23, 0x03, _, port, 0) => {
                 set_feature(value).map(|feature| Request::SetPortFeature(feature, port))
             }
-            (0x23, 0x08, _, 1, 0) => buffer_key(value).map(Request::ClearTtBuffer),
-            (0x23, 0x09, 0, 1, 0) => Some(Request::ResetTt),
+            (0x23, 0x08, _, 1, 0) => buffer_key(lane, value).map(Request::ClearTtBuffer),
+            (0x23, 0x09, 0, 1, 0) => Some(Request::ResetTt(lane)),
             _ => None,
         }
     }
@@ -80,13 +80,14 @@ fn clear_feature(value: u16) -> Option<ClearFeature> {
 }
 
 /// wValue of ClearTTBuffer.
-fn buffer_key(value: u16) -> Option<Key> {
+fn buffer_key(lane: Lane, value: u16) -> Option<Key> {
     let [low, high] = value.to_le_bytes();
     let kind = high >> 3 & 0b11;
     if kind % 2 == 1 || high & 0b0110_0000 != 0 {
         return None;
     }
     Some(Key {
+        lane,
         endpoint: low % 16,
         address: low / 16 + (high % 8) * 16,
         direction: if high >= 128 { Direction::In } else { Direction::Out },

@@ -1,11 +1,12 @@
 //! Single situations that the calls of the sessions must meet.
 
 use crate::answer;
-use crate::coverage::{request, Step};
+use crate::coverage::{request, setup, Step};
 use crate::hub::{Call, Hub};
+use crate::lanes;
 use crate::port::{Change, ClearFeature, Event, Port, SetFeature, Speed, State};
 use crate::request::Request;
-use crate::translator::{Buffer, Direction, Key, LowSide, Outcome, Token, Translator};
+use crate::translator::{Buffer, Direction, Key, Lane, LowSide, Outcome, Token, Translator};
 
 type Met = fn(&Step) -> bool;
 
@@ -84,8 +85,15 @@ pub const SITUATIONS: &[(&str, Met)] = &[
     }),
     ("SetConfiguration 0 stops the low side", |step| configures(step, false) && occupied(step)),
     ("SetConfiguration 1 stops the low side", |step| configures(step, true) && occupied(step)),
-    ("ResetTT stops the low side", |step| {
-        requested(step) == Some(Request::ResetTt) && occupied(step)
+    ("SetConfiguration 0 empties both lanes", |step| configures(step, false) && both_lanes(step)),
+    ("SetConfiguration 1 empties both lanes", |step| configures(step, true) && both_lanes(step)),
+    ("bus reset empties both lanes", |step| {
+        matches!(step.call, Call::BusReset) && both_lanes(step)
+    }),
+    ("ResetTT leaves a gap in the places", |step| {
+        matches!(requested(step), Some(Request::ResetTt(_)))
+            && has_gap(&step.after.translator)
+            && !has_gap(translator(step))
     }),
     ("bus reset stops the low side", |step| matches!(step.call, Call::BusReset) && occupied(step)),
     ("bus reset clears change bits", |step| {
@@ -104,7 +112,9 @@ pub const SITUATIONS: &[(&str, Met)] = &[
     ("own old buffer reused, a lower one free", |step| {
         start(step).and_then(|(_, key)| translator(step).find(key)).is_some_and(|number| {
             let buffers = &translator(step).buffers;
-            buffers[number].is_free() && buffers[..number].iter().any(Buffer::is_free)
+            step.answer.number == answer::DONE
+                && buffers[number].is_free()
+                && buffers[..number].iter().any(Buffer::is_free)
         })
     }),
     ("old buffer of another key reused", |step| {
@@ -151,23 +161,31 @@ pub const SITUATIONS: &[(&str, Met)] = &[
             && step.answer.bytes.is_empty()
     }),
     ("failure shown as STALL", |step| {
-        completed(step).is_some_and(|outcome| *outcome == Outcome::Failure)
+        completed(step).is_some_and(|(_, outcome)| *outcome == Outcome::Failure)
     }),
     ("STALL of the device", |step| {
-        completed(step).is_some_and(|outcome| *outcome == Outcome::Stall)
+        completed(step).is_some_and(|(_, outcome)| *outcome == Outcome::Stall)
     }),
     ("complete-split, other direction held", |step| {
-        let Call::CompleteSplit { address, endpoint, direction, .. } = step.call else {
+        let Call::CompleteSplit { lane, address, endpoint, direction, .. } = step.call else {
             return false;
         };
         step.answer.number == answer::STALL
-            && Key::from_numbers(*address, *endpoint, 1 - direction)
+            && Key::from_numbers(*lane, *address, *endpoint, 1 - direction)
                 .is_some_and(|key| held(step, key).is_some())
     }),
     ("both directions of an endpoint held", |step| {
         translator(step).buffers.iter().filter_map(Buffer::key).any(|key| {
             key.direction == Direction::In
                 && held(step, Key { direction: Direction::Out, ..key }).is_some()
+        })
+    }),
+    ("both lanes have data under one key", |step| {
+        completed(step).is_some_and(|(key, outcome)| {
+            held(step, key.twin()).and_then(Buffer::outcome).is_some_and(|twin| {
+                matches!((outcome, twin), (Outcome::Data(..), Outcome::Data(..)))
+                    && outcome.bytes() != twin.bytes()
+            })
         })
     }),
     ("result does not suit IN", |step| unsuited(step, Token::In)),
@@ -206,6 +224,19 @@ pub const SITUATIONS: &[(&str, Met)] = &[
     }),
     ("port 0 in a request", |step| names_port(step, |port, _| port == 0)),
     ("a port above the last in a request", |step| names_port(step, |port, last| port > last)),
+    ("no lane, reply space too short", |step| {
+        no_lane(step) && step.call.space().is_some_and(|space| space < 64)
+    }),
+    ("no lane, hub unconfigured", |step| {
+        no_lane(step) && !step.before.configured && !matches!(step.call, Call::Control { .. })
+    }),
+    ("no lane, setup fields wrong", |step| {
+        no_lane(step)
+            && setup(step.call).is_some_and(|setup| Request::read(Lane::Zero, setup).is_none())
+    }),
+    ("no lane, length of the setup bytes wrong", |step| {
+        no_lane(step) && matches!(step.call, Call::Control { setup, .. } if setup.len() != 8)
+    }),
 ];
 
 fn translator<'a>(step: &Step<'a>) -> &'a Translator {
@@ -284,6 +315,23 @@ fn occupied(step: &Step) -> bool {
     translator(step).low_side != LowSide::Idle
 }
 
+/// The call gives a lane outside 0 and 1.
+fn no_lane(step: &Step) -> bool {
+    lanes::carrier(step.call).is_some_and(|(_, number)| number > 1)
+}
+
+/// Each lane has a buffer that isn't empty.
+fn both_lanes(step: &Step) -> bool {
+    let has = |lane| translator(step).buffers.iter().any(|buffer| buffer.lane() == Some(lane));
+    Lane::ALL.into_iter().all(has)
+}
+
+/// The places of the pending buffers aren't 0, 1, ..
+fn has_gap(translator: &Translator) -> bool {
+    let places = || translator.buffers.iter().filter_map(Buffer::place);
+    places().max().is_some_and(|last| usize::from(last) >= places().count())
+}
+
 fn abandoned(step: &Step) -> bool {
     translator(step).low_side == LowSide::Abandoned
 }
@@ -316,22 +364,22 @@ fn start(step: &Step) -> Option<(Token, Key)> {
     }
 }
 
-/// The result that a complete-split gave.
-fn completed<'a>(step: &Step<'a>) -> Option<&'a Outcome> {
-    let Call::CompleteSplit { address, endpoint, direction, .. } = step.call else { return None };
+/// The key of a complete-split and the result that it gave.
+fn completed<'a>(step: &Step<'a>) -> Option<(Key, &'a Outcome)> {
+    let Call::CompleteSplit { lane, address, endpoint, direction, .. } = step.call else {
+        return None;
+    };
     if answer::is_refusal(step.answer.number) {
         return None;
     }
-    match held(step, Key::from_numbers(*address, *endpoint, *direction)?)? {
-        Buffer::Ready(_, outcome) | Buffer::Old(_, outcome) => Some(outcome),
-        _ => None,
-    }
+    let key = Key::from_numbers(*lane, *address, *endpoint, *direction)?;
+    Some((key, held(step, key)?.outcome()?))
 }
 
 fn unsuited(step: &Step, token: Token) -> bool {
     matches!(step.call, Call::Deliver { .. })
         && step.answer.number == answer::NOT_NOW
-        && translator(step).running() == Some(token)
+        && translator(step).running().is_some_and(|start| start.token == token)
 }
 
 /// A buffer holds fewer bytes than before, but isn't empty.

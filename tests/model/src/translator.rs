@@ -8,8 +8,16 @@ pub enum Direction {
     In,
 }
 
+/// The upstream lane of one computer.
+#[derive(Clone, Copy, Debug, PartialEq, Eq)]
+pub enum Lane {
+    Zero,
+    One,
+}
+
 #[derive(Clone, Copy, Debug, PartialEq, Eq)]
 pub struct Key {
+    pub lane: Lane,
     pub address: u8,
     pub endpoint: u8,
     pub direction: Direction,
@@ -36,6 +44,7 @@ pub enum Toggle {
 
 #[derive(Clone, Debug, PartialEq, Eq)]
 pub struct Start {
+    pub lane: Lane,
     pub token: Token,
     pub transfer: Transfer,
     pub low_speed: bool,
@@ -72,6 +81,25 @@ pub enum LowSide {
 pub struct Translator {
     pub buffers: Vec<Buffer>,
     pub low_side: LowSide,
+}
+
+impl Lane {
+    pub const ALL: [Lane; 2] = [Lane::Zero, Lane::One];
+
+    pub fn from_number(number: u32) -> Option<Lane> {
+        match number {
+            0 => Some(Lane::Zero),
+            1 => Some(Lane::One),
+            _ => None,
+        }
+    }
+
+    pub fn other(self) -> Lane {
+        match self {
+            Lane::Zero => Lane::One,
+            Lane::One => Lane::Zero,
+        }
+    }
 }
 
 impl Token {
@@ -118,7 +146,8 @@ impl Transfer {
 }
 
 impl Key {
-    pub fn from_numbers(address: u32, endpoint: u32, direction: u32) -> Option<Key> {
+    pub fn from_numbers(lane: u32, address: u32, endpoint: u32, direction: u32) -> Option<Key> {
+        let lane = Lane::from_number(lane)?;
         let direction = match direction {
             0 => Direction::Out,
             1 => Direction::In,
@@ -127,7 +156,12 @@ impl Key {
         if address > 127 || endpoint > 15 {
             return None;
         }
-        Some(Key { address: address as u8, endpoint: endpoint as u8, direction })
+        Some(Key { lane, address: address as u8, endpoint: endpoint as u8, direction })
+    }
+
+    /// The same key in the other lane.
+    pub fn twin(self) -> Key {
+        Key { lane: self.lane.other(), ..self }
     }
 }
 
@@ -142,7 +176,7 @@ pub fn flag(number: u32) -> Option<bool> {
 impl Start {
     pub fn key(&self) -> Key {
         let direction = self.token.direction();
-        Key { address: self.address, endpoint: self.endpoint, direction }
+        Key { lane: self.lane, address: self.address, endpoint: self.endpoint, direction }
     }
 
     /// SETUP is control.
@@ -226,9 +260,21 @@ impl Buffer {
         self.start().map(Start::key)
     }
 
+    pub fn lane(&self) -> Option<Lane> {
+        self.start().map(|start| start.lane)
+    }
+
     pub fn place(&self) -> Option<u8> {
         match self {
             Buffer::Pending { place, .. } => Some(*place),
+            _ => None,
+        }
+    }
+
+    /// The result of a ready or old buffer.
+    pub fn outcome(&self) -> Option<&Outcome> {
+        match self {
+            Buffer::Ready(_, outcome) | Buffer::Old(_, outcome) => Some(outcome),
             _ => None,
         }
     }
@@ -252,10 +298,22 @@ impl Translator {
         self.buffers.iter().position(|buffer| buffer.key() == Some(key))
     }
 
+    /// The most buffers that a lane may hold.
+    pub fn limit(&self) -> usize {
+        self.buffers.len() - 1
+    }
+
+    /// The buffers that the lane holds, pending or ready.
+    pub fn held(&self, lane: Lane) -> usize {
+        let holds = |buffer: &&Buffer| buffer.lane() == Some(lane) && !buffer.is_free();
+        self.buffers.iter().filter(holds).count()
+    }
+
     pub fn start(&mut self, start: Start, payload: Vec<u8>) -> Answer {
         let number = match self.find(start.key()) {
-            Some(number) if self.buffers[number].is_free() => Some(number),
-            Some(_) => return Answer::plain(answer::DONE),
+            Some(number) if !self.buffers[number].is_free() => return Answer::plain(answer::DONE),
+            _ if self.held(start.lane) + 1 > self.limit() => return Answer::plain(answer::NAK),
+            Some(number) => Some(number),
             None => self.buffers.iter().position(Buffer::is_free),
         };
         let Some(number) = number else { return Answer::plain(answer::NAK) };
@@ -313,6 +371,7 @@ impl Translator {
         Answer {
             pid: start.token.number(),
             transfer: start.transfer.number(),
+            lane: start.lane as u8,
             address: start.address,
             endpoint: start.endpoint,
             direction: start.token.direction() as u8,
@@ -322,10 +381,14 @@ impl Translator {
         }
     }
 
-    /// The running transaction's token.
-    pub fn running(&self) -> Option<Token> {
+    pub fn is_idle(&self) -> bool {
+        self.low_side == LowSide::Idle
+    }
+
+    /// The running transaction.
+    pub fn running(&self) -> Option<&Start> {
         match self.low_side {
-            LowSide::Running(number) => self.buffers[number].start().map(|start| start.token),
+            LowSide::Running(number) => self.buffers[number].start(),
             _ => None,
         }
     }
@@ -333,7 +396,7 @@ impl Translator {
     pub fn permits_delivery(&self, outcome: &Outcome) -> bool {
         match self.low_side {
             LowSide::Idle => false,
-            LowSide::Running(_) => self.running().is_some_and(|token| outcome.suits(token)),
+            LowSide::Running(_) => self.running().is_some_and(|start| outcome.suits(start.token)),
             LowSide::Abandoned => true,
         }
     }
@@ -350,7 +413,22 @@ impl Translator {
 
     /// ClearTTBuffer.
     pub fn clear(&mut self, key: Key) {
-        let Some(number) = self.find(key) else { return };
+        if let Some(number) = self.find(key) {
+            self.empty(number);
+        }
+    }
+
+    /// ResetTT from the lane.
+    pub fn reset(&mut self, lane: Lane) {
+        for number in 0..self.buffers.len() {
+            if self.buffers[number].lane() == Some(lane) {
+                self.empty(number);
+            }
+        }
+    }
+
+    /// Empties the buffer; its transaction, if it runs, is abandoned.
+    fn empty(&mut self, number: usize) {
         self.buffers[number] = Buffer::Empty;
         if self.low_side == LowSide::Running(number) {
             self.low_side = LowSide::Abandoned;

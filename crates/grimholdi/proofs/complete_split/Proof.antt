@@ -22,7 +22,7 @@ returns : tie.Need-returns
 returns c =
     let f = c .before .before in
     let s = f .before .before .before .before .before .before in
-    complete-refused _ (s .pre) _ (f .before .head-at .ensures) _ _ _ (f .before .before .before .key-named .ensures) _ (f .first-refusal .ensures) (c .before .if1 .taken) _
+    complete-refused _ (s .pre) _ (f .before .head-at .ensures) _ _ _ _ (f .before .before .before .key-named .ensures) _ (f .first-refusal .ensures) (c .before .if1 .taken) _
     (c .plain-answer .ensures)
 
 slots-at-requires : tie.Need-slots-at-requires
@@ -81,7 +81,7 @@ returns-2 c =
     let f = c .before .before .before in
     let k = f .before .before .before .before in
     let s = k .before .before .before .before .before .before .before in
-    nowhere _ (s .pre) _ (k .before .before .head-at .ensures) _ _ _ (k .before .before .before .before .key-named .ensures) _ (k .before .first-refusal .ensures)
+    nowhere _ (s .pre) _ (k .before .before .head-at .ensures) _ _ _ _ (k .before .before .before .before .key-named .ensures) _ (k .before .first-refusal .ensures)
     (k .if1 .left) _ (f .before .before .slots-at .ensures) _ (f .before .key-of .ensures) (f .holder .ensures) (c .before .enum-told .given .1) _ (c .plain-answer2 .ensures)
 
 same-length-3 : tie.Need-same-length-3
@@ -93,7 +93,7 @@ returns-3 c =
     let f = b .before .before .before .before .before in
     let k = f .before .before .before .before in
     let s = k .before .before .before .before .before .before .before in
-    on-empty _ (s .pre) _ (k .before .before .head-at .ensures) _ _ _ (k .before .before .before .before .key-named .ensures) _ (k .before .first-refusal .ensures)
+    on-empty _ (s .pre) _ (k .before .before .head-at .ensures) _ _ _ _ (k .before .before .before .before .key-named .ensures) _ (k .before .first-refusal .ensures)
     (k .if1 .left) _ (f .before .before .slots-at .ensures) _ (f .before .key-of .ensures) (f .holder .ensures) (b .before .before .before .n .given .1) _ (b .buffer-at .ensures) (c .before .enum-told2 .given .1) _ (c .plain-answer3 .ensures)
 
 same-length-4 : tie.Need-same-length-4
@@ -105,7 +105,7 @@ returns-4 c =
     let f = b .before .before .before .before .before in
     let k = f .before .before .before .before in
     let s = k .before .before .before .before .before .before .before in
-    on-pending _ (s .pre) _ (k .before .before .head-at .ensures) _ _ _ (k .before .before .before .before .key-named .ensures) _ (k .before .first-refusal .ensures)
+    on-pending _ (s .pre) _ (k .before .before .head-at .ensures) _ _ _ _ (k .before .before .before .before .key-named .ensures) _ (k .before .first-refusal .ensures)
     (k .if1 .left) _ (f .before .before .slots-at .ensures) _ (f .before .key-of .ensures) (f .holder .ensures) (b .before .before .before .n .given .1) _ (b .buffer-at .ensures) (c .before .enum-told3 .given .1) _ (c .plain-answer4 .ensures)
 
 same-length-5 : tie.Need-same-length-5
@@ -121,7 +121,7 @@ returns-5 c =
     let f = b .before .before .before .before .before in
     let k = f .before .before .before .before in
     let s = k .before .before .before .before .before .before .before in
-    on-ready _ (s .pre) _ (k .before .before .head-at .ensures) _ _ _ (k .before .before .before .before .key-named .ensures) _ (k .before .first-refusal .ensures)
+    on-ready _ (s .pre) _ (k .before .before .head-at .ensures) _ _ _ _ (k .before .before .before .before .key-named .ensures) _ (k .before .first-refusal .ensures)
     (k .if1 .left) _ (f .before .before .slots-at .ensures) _ (f .before .key-of .ensures) (f .holder .ensures) (b .before .before .before .n .given .1) _ (b .buffer-at .ensures) (w .before .before .before .slot .given .1) _ _ _ (w .put-old .ensures)
     (c .before .before .give-result .ensures)
 
@@ -138,7 +138,7 @@ returns-6 c =
     let f = b .before .before .before .before .before in
     let k = f .before .before .before .before in
     let s = k .before .before .before .before .before .before .before in
-    on-old _ (s .pre) _ (k .before .before .head-at .ensures) _ _ _ (k .before .before .before .before .key-named .ensures) _ (k .before .first-refusal .ensures)
+    on-old _ (s .pre) _ (k .before .before .head-at .ensures) _ _ _ _ (k .before .before .before .before .key-named .ensures) _ (k .before .first-refusal .ensures)
     (k .if1 .left) _ (f .before .before .slots-at .ensures) _ (f .before .key-of .ensures) (f .holder .ensures) (b .before .before .before .n .given .1) _ (b .buffer-at .ensures) (w .slot2 .given .1) _ _ (c .before .before .give-result2 .ensures)
 
 pub complete-split-spec : {M : Type 1} → statement M

@@ -21,7 +21,7 @@ same-length-2 c = search needs
 returns : tie.Need-returns
 returns c =
     let called = c .before .before .before .before in
-    gives-reply _ _ (called .before .before .before .read-area .ensures) (called .before .before .if1 .taken) _ _ (called .poll .result) (called .poll .ensures) (poll-stays _ _) _ _
+    gives-reply _ _ (called .before .before .before .read-area .ensures) (called .before .before .if1 .taken) _ _ (called .poll .result) (called .poll .ensures) (poll-stays _ _ _) _ _
     (c .before .before .give-reply .ensures)
 
 plain-answer-requires : tie.Need-plain-answer-requires

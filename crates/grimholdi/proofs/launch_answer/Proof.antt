@@ -11,6 +11,9 @@ pid-number-requires c κs = search needs
 type-number-requires : tie.Need-type-number-requires
 type-number-requires c κs = search needs
 
+lane-number-requires : tie.Need-lane-number-requires
+lane-number-requires c κs = search needs
+
 direction-requires : tie.Need-direction-requires
 direction-requires c κs = search needs
 
@@ -24,9 +27,7 @@ flag-number-requires-2 : tie.Need-flag-number-requires-2
 flag-number-requires-2 c κs = search needs
 
 returns : tie.Need-returns
-returns c =
-    let d = c .before .before in
-    rw (c .flag-number2 .ensures, c .before .flag-number .ensures, d .direction-number .ensures, d .before .direction .ensures, d .before .before .type-number .ensures, d .before .before .before .pid-number .ensures, d .before .before .before .before .size .ensures)
+returns c = rw (c .flag-number2 .ensures, c .before .flag-number .ensures, c .before .before .direction-number .ensures, c .before .before .before .direction .ensures, c .before .before .before .before .lane-number .ensures, c .before .before .before .before .before .type-number .ensures, c .before .before .before .before .before .before .pid-number .ensures, c .before .before .before .before .before .before .before .size .ensures)
 
 pub launch-answer-spec : {M : Type 1} → statement M
 launch-answer-spec =
@@ -35,6 +36,7 @@ launch-answer-spec =
     size-requires
     pid-number-requires
     type-number-requires
+    lane-number-requires
     direction-requires
     direction-number-requires
     flag-number-requires

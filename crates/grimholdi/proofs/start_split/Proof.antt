@@ -1,4 +1,4 @@
-use Rattle.grimholdi.proofs.Starting.{start-refused, no-room, held, reused, took}
+use Rattle.grimholdi.proofs.Starting.{start-refused, no-room, limit, held, reused, took}
 use mathlib.Core.Path.{_∙_}
 use borrow.Author.Needs.{needs}
 use Rattle.grimholdi.proofs.start_split.Statement.{statement}
@@ -33,7 +33,7 @@ returns c =
     let f = c .before .before in
     let q = f .before .before .before in
     let s = q .before .before .before .before .before .before in
-    start-refused _ (s .pre) _ (f .before .head-at .ensures) _ _ _ _ _ _ _ _ (q .before .before .before .split-of .ensures)
+    start-refused _ (s .pre) _ (f .before .head-at .ensures) _ _ _ _ _ _ _ _ _ (q .before .before .before .split-of .ensures)
     (q .both .ensures ∙ rw (q .before .before .split-named .ensures, q .before .fits2 .ensures)) (f .first-refusal .ensures) (c .before .if1 .taken) _ (c .plain-answer .ensures)
 
 slots-at-requires : tie.Need-slots-at-requires
@@ -57,14 +57,20 @@ enum-told-2 c = search needs
 plain-answer-requires-3 : tie.Need-plain-answer-requires-3
 plain-answer-requires-3 c κs = search needs
 
+enum-told-3 : tie.Need-enum-told-3
+enum-told-3 c = search needs
+
+plain-answer-requires-4 : tie.Need-plain-answer-requires-4
+plain-answer-requires-4 c κs = search needs
+
 enum-known-n : tie.Need-enum-known-n
 enum-known-n c = search needs
 
 store-requires : tie.Need-store-requires
 store-requires c κs = search needs
 
-plain-answer-requires-4 : tie.Need-plain-answer-requires-4
-plain-answer-requires-4 c κs = search needs
+plain-answer-requires-5 : tie.Need-plain-answer-requires-5
+plain-answer-requires-5 c κs = search needs
 
 enum-known-n-2 : tie.Need-enum-known-n-2
 enum-known-n-2 c = search needs
@@ -72,8 +78,8 @@ enum-known-n-2 c = search needs
 store-requires-2 : tie.Need-store-requires-2
 store-requires-2 c κs = search needs
 
-plain-answer-requires-5 : tie.Need-plain-answer-requires-5
-plain-answer-requires-5 c κs = search needs
+plain-answer-requires-6 : tie.Need-plain-answer-requires-6
+plain-answer-requires-6 c κs = search needs
 
 same-length-2 : tie.Need-same-length-2
 same-length-2 c = search needs
@@ -84,7 +90,7 @@ returns-2 c =
     let k = f .before .before .before .before in
     let q = k .before .before .before .before in
     let s = q .before .before .before .before .before .before in
-    no-room _ (s .pre) _ (k .before .before .head-at .ensures) _ _ _ _ _ _ _ _ (q .before .before .before .split-of .ensures)
+    no-room _ (s .pre) _ (k .before .before .head-at .ensures) _ _ _ _ _ _ _ _ _ (q .before .before .before .split-of .ensures)
     (q .both .ensures ∙ rw (q .before .before .split-named .ensures, q .before .fits2 .ensures)) (k .before .first-refusal .ensures)
     (k .if1 .left) _ (f .before .before .slots-at .ensures) _ (f .before .key .ensures) (f .choose .ensures) (c .before .enum-told .given .1) _ (c .plain-answer2 .ensures)
 
@@ -97,7 +103,7 @@ returns-3 c =
     let k = f .before .before .before .before in
     let q = k .before .before .before .before in
     let s = q .before .before .before .before .before .before in
-    held _ (s .pre) _ (k .before .before .head-at .ensures) _ _ _ _ _ _ _ _ (q .before .before .before .split-of .ensures)
+    limit _ (s .pre) _ (k .before .before .head-at .ensures) _ _ _ _ _ _ _ _ _ (q .before .before .before .split-of .ensures)
     (q .both .ensures ∙ rw (q .before .before .split-named .ensures, q .before .fits2 .ensures)) (k .before .first-refusal .ensures)
     (k .if1 .left) _ (f .before .before .slots-at .ensures) _ (f .before .key .ensures) (f .choose .ensures) (c .before .enum-told2 .given .1) _ (c .plain-answer3 .ensures)
 
@@ -106,13 +112,13 @@ same-length-4 c = search needs
 
 returns-4 : tie.Need-returns-4
 returns-4 c =
-    let f = c .before .before .before .before .before .before .before .before in
+    let f = c .before .before .before in
     let k = f .before .before .before .before in
     let q = k .before .before .before .before in
     let s = q .before .before .before .before .before .before in
-    reused _ (s .pre) _ (k .before .before .head-at .ensures) _ _ _ _ _ _ _ _ (q .before .before .before .split-of .ensures)
+    held _ (s .pre) _ (k .before .before .head-at .ensures) _ _ _ _ _ _ _ _ _ (q .before .before .before .split-of .ensures)
     (q .both .ensures ∙ rw (q .before .before .split-named .ensures, q .before .fits2 .ensures)) (k .before .first-refusal .ensures)
-    (k .if1 .left) _ (f .before .before .slots-at .ensures) _ (f .before .key .ensures) (f .choose .ensures) (c .before .before .before .before .before .before .n .given .1) _ _ (c .plain-answer4 .ensures) (c .before .before .before .store .ensures)
+    (k .if1 .left) _ (f .before .before .slots-at .ensures) _ (f .before .key .ensures) (f .choose .ensures) (c .before .enum-told3 .given .1) _ (c .plain-answer4 .ensures)
 
 same-length-5 : tie.Need-same-length-5
 same-length-5 c = search needs
@@ -123,9 +129,22 @@ returns-5 c =
     let k = f .before .before .before .before in
     let q = k .before .before .before .before in
     let s = q .before .before .before .before .before .before in
-    took _ (s .pre) _ (k .before .before .head-at .ensures) _ _ _ _ _ _ _ _ (q .before .before .before .split-of .ensures)
+    reused _ (s .pre) _ (k .before .before .head-at .ensures) _ _ _ _ _ _ _ _ _ (q .before .before .before .split-of .ensures)
     (q .both .ensures ∙ rw (q .before .before .split-named .ensures, q .before .fits2 .ensures)) (k .before .first-refusal .ensures)
-    (k .if1 .left) _ (f .before .before .slots-at .ensures) _ (f .before .key .ensures) (f .choose .ensures) (c .before .before .before .before .before .before .n2 .given .1) _ _ (c .plain-answer5 .ensures) (c .before .before .before .store2 .ensures)
+    (k .if1 .left) _ (f .before .before .slots-at .ensures) _ (f .before .key .ensures) (f .choose .ensures) (c .before .before .before .before .before .before .n .given .1) _ _ (c .plain-answer5 .ensures) (c .before .before .before .store .ensures)
+
+same-length-6 : tie.Need-same-length-6
+same-length-6 c = search needs
+
+returns-6 : tie.Need-returns-6
+returns-6 c =
+    let f = c .before .before .before .before .before .before .before .before in
+    let k = f .before .before .before .before in
+    let q = k .before .before .before .before in
+    let s = q .before .before .before .before .before .before in
+    took _ (s .pre) _ (k .before .before .head-at .ensures) _ _ _ _ _ _ _ _ _ (q .before .before .before .split-of .ensures)
+    (q .both .ensures ∙ rw (q .before .before .split-named .ensures, q .before .fits2 .ensures)) (k .before .first-refusal .ensures)
+    (k .if1 .left) _ (f .before .before .slots-at .ensures) _ (f .before .key .ensures) (f .choose .ensures) (c .before .before .before .before .before .before .n2 .given .1) _ _ (c .plain-answer6 .ensures) (c .before .before .before .store2 .ensures)
 
 pub start-split-spec : {M : Type 1} → statement M
 start-split-spec =
@@ -147,12 +166,14 @@ start-split-spec =
     plain-answer-requires-2
     enum-told-2
     plain-answer-requires-3
+    enum-told-3
+    plain-answer-requires-4
     enum-known-n
     store-requires
-    plain-answer-requires-4
+    plain-answer-requires-5
     enum-known-n-2
     store-requires-2
-    plain-answer-requires-5
+    plain-answer-requires-6
     same-length-2
     returns-2
     same-length-3
@@ -160,4 +181,6 @@ start-split-spec =
     same-length-4
     returns-4
     same-length-5
-    returns-5)
+    returns-5
+    same-length-6
+    returns-6)

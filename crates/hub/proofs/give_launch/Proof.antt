@@ -8,6 +8,9 @@ pid-number-requires c κs = search needs
 type-number-requires : tie.Need-type-number-requires
 type-number-requires c κs = search needs
 
+lane-number-requires : tie.Need-lane-number-requires
+lane-number-requires c κs = search needs
+
 direction-requires : tie.Need-direction-requires
 direction-requires c κs = search needs
 
@@ -21,9 +24,7 @@ flag-number-requires-2 : tie.Need-flag-number-requires-2
 flag-number-requires-2 c κs = search needs
 
 returns : tie.Need-returns
-returns c =
-    let d = c .before .before in
-    rw (c .flag-number2 .ensures, c .before .flag-number .ensures, d .direction-number .ensures, d .before .direction .ensures, d .before .before .type-number .ensures, d .before .before .before .pid-number .ensures)
+returns c = rw (c .flag-number2 .ensures, c .before .flag-number .ensures, c .before .before .direction-number .ensures, c .before .before .before .direction .ensures, c .before .before .before .before .lane-number .ensures, c .before .before .before .before .before .type-number .ensures, c .before .before .before .before .before .before .pid-number .ensures)
 
 pub give-launch-spec : {M : Type 1} → statement M
 give-launch-spec =
@@ -31,6 +32,7 @@ give-launch-spec =
     (tie.spec
     pid-number-requires
     type-number-requires
+    lane-number-requires
     direction-requires
     direction-number-requires
     flag-number-requires

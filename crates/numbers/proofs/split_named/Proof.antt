@@ -24,15 +24,21 @@ both-requires-2 c κs = search needs
 both-requires-3 : tie.Need-both-requires-3
 both-requires-3 c κs = search needs
 
+is-lane-requires : tie.Need-is-lane-requires
+is-lane-requires c κs = search needs
+
 both-requires-4 : tie.Need-both-requires-4
 both-requires-4 c κs = search needs
 
 both-requires-5 : tie.Need-both-requires-5
 both-requires-5 c κs = search needs
 
+both-requires-6 : tie.Need-both-requires-6
+both-requires-6 c κs = search needs
+
 returns : tie.Need-returns
 unfolding splitNamed
-returns c = rw (c .both5 .ensures, c .before .both4 .ensures, c .before .before .both3 .ensures, c .before .before .before .both2 .ensures, c .before .before .before .before .is-flag2 .ensures, c .before .before .before .before .before .is-flag .ensures, c .before .before .before .before .before .before .both .ensures, c .before .before .before .before .before .before .before .is-type .ensures, c .before .before .before .before .before .before .before .before .is-pid .ensures)
+returns c = rw (c .both6 .ensures, c .before .both5 .ensures, c .before .before .both4 .ensures, c .before .before .before .is-lane .ensures, c .before .before .before .before .both3 .ensures, c .before .before .before .before .before .both2 .ensures, c .before .before .before .before .before .before .is-flag2 .ensures, c .before .before .before .before .before .before .before .is-flag .ensures, c .before .before .before .before .before .before .before .before .both .ensures, c .before .before .before .before .before .before .before .before .before .is-type .ensures, c .before .before .before .before .before .before .before .before .before .before .is-pid .ensures)
 
 pub split-named-spec : {M : Type 1} → statement M
 split-named-spec =
@@ -45,6 +51,8 @@ split-named-spec =
     is-flag-requires-2
     both-requires-2
     both-requires-3
+    is-lane-requires
     both-requires-4
     both-requires-5
+    both-requires-6
     returns)

@@ -1,47 +1,77 @@
-use mathlib.Core.Path.{sym, _∙_}
-use Rattle.translator.specs.declared.Choice.the-variants.{NoRoom, Held, Reused, Took}
-use Rattle.translator.proofs.Search.{found-by}
 use borrow.Author.Needs.{needs}
+use Prim.Native.Nat.{_-_}
+use mathlib.Core.Path.{_≡_}
+use native.Mathlib.Omega.{arith}
+use lib.ListN.{take, length}
+use Rattle.buffer.specs.Buffer.{holds}
+use Rattle.translator.specs.declared.Found.the-variants.{Nowhere}
+use Rattle.translator.specs.Search.{find}
+use Rattle.translator.specs.Slots.{bare}
+use Rattle.translator.proofs.Search.{Ahead, ended, finding, finding-from, not-here, found-here}
 use Rattle.translator.proofs.holder.Statement.{statement}
 use Rattle.translator.proofs.holder.Tie as tie
 
-choose-requires : tie.Need-choose-requires
-choose-requires c κs = search needs
+abbrev Inv-loop : tie.InvT-loop
+Inv-loop count key slots used i₀ i = Ahead (finding key) count slots (find (holds key) (take count (bare slots))) i Nowhere
 
-enum-told : tie.Need-enum-told
-enum-told c = search needs
+abbrev μ-loop : tie.MeasureT-loop
+μ-loop count key slots used i₀ i = 4 - i
 
-enum-known-n : tie.Need-enum-known-n
-enum-known-n c = search needs
+-- the array has four slots
+long : (c : tie.Start Inv-loop μ-loop) → length (c .args .t1) ≡ 4
+long c = search needs
 
-enum-known-n-2 : tie.Need-enum-known-n-2
-enum-known-n-2 c = search needs
+loop-holds : tie.Need-loop-holds Inv-loop μ-loop
+loop-holds c = finding-from _ _ _
 
-enum-told-2 : tie.Need-enum-told-2
-enum-told-2 c = search needs
+returns : tie.Need-returns Inv-loop μ-loop
+returns c = ended (c .before .before .loop .inv) (omega (arith, long (c .before .before .before)))
 
-returns : tie.Need-returns
-returns c = found-by _ _ NoRoom (sym (c .enum-told .given .1) ∙ c .before .before .choose .ensures)
+mul-slot : tie.Need-mul-slot Inv-loop μ-loop
+mul-slot c = search needs
 
-returns-2 : tie.Need-returns-2
-returns-2 c = found-by _ _ (Held (c .before .n .given .0 .0)) (sym (c .before .n .given .1) ∙ c .before .before .before .choose .ensures)
+array-copy-out-slot : tie.Need-array-copy-out-slot Inv-loop μ-loop
+array-copy-out-slot c = search needs
 
-returns-3 : tie.Need-returns-3
-returns-3 c = found-by _ _ (Reused (c .before .n2 .given .0 .0)) (sym (c .before .n2 .given .1) ∙ c .before .before .before .choose .ensures)
+holds-requires : tie.Need-holds-requires Inv-loop μ-loop
+holds-requires c κs = search needs
 
-returns-4 : tie.Need-returns-4
-returns-4 c = found-by _ _ (Took (c .enum-told2 .given .0 .0)) (sym (c .enum-told2 .given .1) ∙ c .before .before .choose .ensures)
+cast-t14 : tie.Need-cast-t14 Inv-loop μ-loop
+cast-t14 c = search needs
+
+returns-2 : tie.Need-returns-2 Inv-loop μ-loop
+returns-2 c =
+    let l = c .before .before .before .before .before in
+    found-here _ (l .loop .inv) (c .before .holds .ensures) (c .if2 .taken) (omega arith) (omega (arith, long (l .before)))
+
+add-i : tie.Need-add-i Inv-loop μ-loop
+add-i c = search needs
+
+loop-less : tie.Need-loop-less Inv-loop μ-loop
+loop-less c = search needs
+
+loop-again : tie.Need-loop-again Inv-loop μ-loop
+loop-again c =
+    let l = c .before .before .before .before .before in
+    not-here _ (l .loop .inv) (c .before .holds .ensures) (c .if2 .left) (omega arith) (omega (arith, long (l .before)))
+
+returns-3 : tie.Need-returns-3 Inv-loop μ-loop
+returns-3 c = ended (c .before .loop .inv) (omega (arith, long (c .before .before)))
 
 pub holder-spec : {M : Type 1} → statement M
 holder-spec =
     tie.close
     (tie.spec
-    choose-requires
-    enum-told
-    enum-known-n
-    enum-known-n-2
-    enum-told-2
+    Inv-loop
+    μ-loop
+    loop-holds
     returns
+    mul-slot
+    array-copy-out-slot
+    holds-requires
+    cast-t14
     returns-2
-    returns-3
-    returns-4)
+    add-i
+    loop-less
+    loop-again
+    returns-3)

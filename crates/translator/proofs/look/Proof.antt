@@ -17,6 +17,9 @@ enum-told-4 c = search needs
 enum-told-5 : tie.Need-enum-told-5
 enum-told-5 c = search needs
 
+enum-told-6 : tie.Need-enum-told-6
+enum-told-6 c = search needs
+
 enum-known-sofar : tie.Need-enum-known-sofar
 enum-known-sofar c = search needs
 
@@ -26,9 +29,6 @@ enum-known-sofar-2 c = search needs
 enum-known-sofar-3 : tie.Need-enum-known-sofar-3
 enum-known-sofar-3 c = search needs
 
-enum-told-6 : tie.Need-enum-told-6
-enum-told-6 c = search needs
-
 enum-told-7 : tie.Need-enum-told-7
 enum-told-7 c = search needs
 
@@ -37,6 +37,9 @@ enum-told-8 c = search needs
 
 enum-told-9 : tie.Need-enum-told-9
 enum-told-9 c = search needs
+
+enum-told-10 : tie.Need-enum-told-10
+enum-told-10 c = search needs
 
 returns : tie.Need-returns
 returns c = search needs
@@ -51,13 +54,13 @@ returns-4 : tie.Need-returns-4
 returns-4 c = rw (c .before .before .enum-told .given .1, c .enum-told5 .given .1)
 
 returns-5 : tie.Need-returns-5
-returns-5 c = rw (c .before .sofar .given .1)
+returns-5 c = search needs
 
 returns-6 : tie.Need-returns-6
-returns-6 c = rw (c .before .sofar2 .given .1)
+returns-6 c = rw (c .before .sofar .given .1)
 
 returns-7 : tie.Need-returns-7
-returns-7 c = rw (c .before .before .before .sofar3 .given .1, c .enum-told6 .given .1)
+returns-7 c = rw (c .before .sofar2 .given .1)
 
 returns-8 : tie.Need-returns-8
 returns-8 c = rw (c .before .before .before .sofar3 .given .1, c .enum-told7 .given .1)
@@ -68,6 +71,9 @@ returns-9 c = rw (c .before .before .before .sofar3 .given .1, c .enum-told8 .gi
 returns-10 : tie.Need-returns-10
 returns-10 c = rw (c .before .before .before .sofar3 .given .1, c .enum-told9 .given .1)
 
+returns-11 : tie.Need-returns-11
+returns-11 c = rw (c .before .before .before .sofar3 .given .1, c .enum-told10 .given .1)
+
 pub look-spec : {M : Type 1} → statement M
 look-spec =
     tie.close
@@ -77,13 +83,14 @@ look-spec =
     enum-told-3
     enum-told-4
     enum-told-5
+    enum-told-6
     enum-known-sofar
     enum-known-sofar-2
     enum-known-sofar-3
-    enum-told-6
     enum-told-7
     enum-told-8
     enum-told-9
+    enum-told-10
     returns
     returns-2
     returns-3
@@ -93,4 +100,5 @@ look-spec =
     returns-7
     returns-8
     returns-9
-    returns-10)
+    returns-10
+    returns-11)

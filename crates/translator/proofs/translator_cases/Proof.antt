@@ -10,11 +10,12 @@ use Rattle.translator.specs.CompleteSplit.{completeSplit}
 use Rattle.translator.specs.Launch.{launch}
 use Rattle.translator.specs.Deliver.{deliver}
 use Rattle.translator.specs.Clear.{clearBuffer}
+use Rattle.translator.specs.Limit.{permitted}
 use Rattle.translator.proofs.translator_cases.Statement.{statement}
 use Rattle.translator.proofs.translator_cases.Tie as tie
 
 returns : tie.Need-returns
-unfolding padded payloadOf sameKey numbersFit startFits resultLength find chosen pass tally ranked earliest stored startSplit completeSplit launch deliver clearBuffer
+unfolding padded payloadOf sameKey numbersFit startFits resultLength find chosen pass tally ranked earliest stored startSplit completeSplit launch deliver clearBuffer permitted
 returns c = refl
 
 pub translator-cases-spec : {M : Type 1} → statement M

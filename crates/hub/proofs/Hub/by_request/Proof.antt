@@ -84,6 +84,9 @@ answer-requires-5 c κs = search needs
 enum-known-request-6 : tie.Need-enum-known-request-6
 enum-known-request-6 c = search needs
 
+keyed-requires : tie.Need-keyed-requires
+keyed-requires c κs = search needs
+
 clear-buffer-requires : tie.Need-clear-buffer-requires
 clear-buffer-requires c κs = search needs
 
@@ -96,8 +99,8 @@ answer-requires-6 c κs = search needs
 enum-told-5 : tie.Need-enum-told-5
 enum-told-5 c = search needs
 
-empty-requires : tie.Need-empty-requires
-empty-requires c κs = search needs
+reset-lane-requires : tie.Need-reset-lane-requires
+reset-lane-requires c κs = search needs
 
 with-translator-requires-2 : tie.Need-with-translator-requires-2
 with-translator-requires-2 c κs = search needs
@@ -135,10 +138,10 @@ returns-9 : tie.Need-returns-9
 returns-9 c = rw (c .answer5 .ensures, c .before .set-feature .ensures, c .before .before .before .request5 .given .1)
 
 returns-10 : tie.Need-returns-10
-returns-10 c = rw (c .answer6 .ensures, c .before .with-translator .ensures, c .before .before .clear-buffer .ensures, c .before .before .before .before .request6 .given .1)
+returns-10 c = rw (c .answer6 .ensures, c .before .with-translator .ensures, c .before .before .clear-buffer .ensures, c .before .before .before .keyed .ensures, c .before .before .before .before .before .request6 .given .1)
 
 returns-11 : tie.Need-returns-11
-returns-11 c = rw (c .answer7 .ensures, c .before .with-translator2 .ensures, c .before .before .empty .ensures, c .before .before .before .enum-told5 .given .1)
+returns-11 c = rw (c .answer7 .ensures, c .before .with-translator2 .ensures, c .before .before .reset-lane .ensures, c .before .before .before .enum-told5 .given .1)
 
 pub by-request-spec : {M : Type 1} → statement M
 by-request-spec =
@@ -171,11 +174,12 @@ by-request-spec =
     set-feature-requires
     answer-requires-5
     enum-known-request-6
+    keyed-requires
     clear-buffer-requires
     with-translator-requires
     answer-requires-6
     enum-told-5
-    empty-requires
+    reset-lane-requires
     with-translator-requires-2
     answer-requires-7
     returns

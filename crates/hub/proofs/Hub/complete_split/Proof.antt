@@ -19,7 +19,7 @@ returns : tie.Need-returns
 unfolding within roomy heard fitting
 returns c =
     let r = c .before .before in
-    refused-by _ (Complete _ _ _ _) (c .answer .ensures) (r .first-refusal .ensures) (r .before .key-named .ensures) refl refl refl
+    refused-by _ (Complete _ _ _ _ _) (c .answer .ensures) (r .first-refusal .ensures) (r .before .key-named .ensures) refl refl refl
     (c .before .if1 .taken)
 
 key-of-requires : tie.Need-key-of-requires
@@ -36,7 +36,7 @@ unfolding within roomy heard fitting served
 returns-2 c =
     let k = c .before .before in
     let r = k .before .before in
-    served-by _ (Complete _ _ _ _) (r .first-refusal .ensures) (r .before .key-named .ensures) refl refl refl
+    served-by _ (Complete _ _ _ _ _) (r .first-refusal .ensures) (r .before .key-named .ensures) refl refl refl
     (k .before .if1 .left) (c .completed .ensures ∙ rw (c .before .complete-split .ensures, k .key-of .ensures))
 
 pub complete-split-spec : {M : Type 1} → statement M

@@ -7,6 +7,9 @@ use borrow.Author.Needs.{needs}
 use Rattle.hub.proofs.Hub.poll.Statement.{statement}
 use Rattle.hub.proofs.Hub.poll.Tie as tie
 
+is-lane-requires : tie.Need-is-lane-requires
+is-lane-requires c κs = search needs
+
 first-refusal-requires : tie.Need-first-refusal-requires
 first-refusal-requires c κs = search needs
 
@@ -15,8 +18,7 @@ answer-requires c κs = search needs
 
 returns : tie.Need-returns
 unfolding within roomy heard fitting
-returns c =
-    refused-by _ (Poll _) (c .answer .ensures) (c .before .before .first-refusal .ensures) refl refl refl refl (c .before .if1 .taken)
+returns c = refused-by _ (Poll _ _) (c .answer .ensures) (c .before .before .first-refusal .ensures) (c .before .before .before .is-lane .ensures) refl refl refl (c .before .if1 .taken)
 
 bitmap-requires : tie.Need-bitmap-requires
 bitmap-requires c κs = search needs
@@ -28,7 +30,7 @@ returns-2 : tie.Need-returns-2
 unfolding within roomy heard fitting served
 returns-2 c =
     let b = c .before .before in
-    served-by _ (Poll _) (b .before .before .first-refusal .ensures) refl refl refl refl (b .before .if1 .left)
+    served-by _ (Poll _ _) (b .before .before .first-refusal .ensures) (b .before .before .before .is-lane .ensures) refl refl refl (b .before .if1 .left)
     (poll-nothing _ (c .answer2 .ensures) (b .bitmap .ensures) (c .before .if2 .taken))
 
 slice-aggregate-of : tie.Need-slice-aggregate-of
@@ -44,13 +46,14 @@ returns-3 : tie.Need-returns-3
 unfolding within roomy heard fitting served
 returns-3 c =
     let b = c .before .before .before .before in
-    served-by _ (Poll _) (b .before .before .first-refusal .ensures) refl refl refl refl (b .before .if1 .left)
+    served-by _ (Poll _ _) (b .before .before .first-refusal .ensures) (b .before .before .before .is-lane .ensures) refl refl refl (b .before .if1 .left)
     (poll-data _ (c .give-data .ensures) (c .before .of .ensures) (b .bitmap .ensures) (c .before .before .before .if2 .left))
 
 pub poll-spec : {M : Type 1} → statement M
 poll-spec =
     tie.close
     (tie.spec
+    is-lane-requires
     first-refusal-requires
     answer-requires
     returns

@@ -30,7 +30,7 @@ returns c =
     let r = c .before .before in
     let w = r .before in
     let s = w .before .before .before in
-    refused-by _ (Start _ _ _ _ _ _ _) (c .answer .ensures) (r .first-refusal .ensures) (w .both .ensures ∙ rw (w .before .fits2 .ensures, w .before .before .split-named .ensures, s .split-of .ensures)) refl refl refl
+    refused-by _ (Start _ _ _ _ _ _ _ _) (c .answer .ensures) (r .first-refusal .ensures) (w .both .ensures ∙ rw (w .before .fits2 .ensures, w .before .before .split-named .ensures, s .split-of .ensures)) refl refl refl
     (c .before .if1 .taken)
 
 start-split-requires : tie.Need-start-split-requires
@@ -52,7 +52,7 @@ returns-2 c =
     let r = t .before .before in
     let w = r .before in
     let s = w .before .before .before in
-    served-by _ (Start _ _ _ _ _ _ _) (r .first-refusal .ensures) (w .both .ensures ∙ rw (w .before .fits2 .ensures, w .before .before .split-named .ensures, s .split-of .ensures)) refl refl refl
+    served-by _ (Start _ _ _ _ _ _ _ _) (r .first-refusal .ensures) (w .both .ensures ∙ rw (w .before .fits2 .ensures, w .before .before .split-named .ensures, s .split-of .ensures)) refl refl refl
     (t .before .if1 .left)
     (rw (c .answer2 .ensures, c .before .start-answer .ensures, c .before .before .with-translator .ensures, t .start-split .ensures, s .split-of .ensures))
 

@@ -38,8 +38,8 @@ settable-of-requires c κs = search needs
 enum-told-10 : tie.Need-enum-told-10
 enum-told-10 c = search needs
 
-key-in-requires : tie.Need-key-in-requires
-key-in-requires c κs = search needs
+pipe-in-requires : tie.Need-pipe-in-requires
+pipe-in-requires c κs = search needs
 
 enum-told-11 : tie.Need-enum-told-11
 enum-told-11 c = search needs
@@ -72,7 +72,7 @@ returns-9 : tie.Need-returns-9
 returns-9 c = rw (c .settable-of .ensures, c .before .enum-told9 .given .1)
 
 returns-10 : tie.Need-returns-10
-returns-10 c = rw (c .key-in .ensures, c .before .enum-told10 .given .1)
+returns-10 c = rw (c .pipe-in .ensures, c .before .enum-told10 .given .1)
 
 returns-11 : tie.Need-returns-11
 returns-11 c = search needs
@@ -93,7 +93,7 @@ meaning-spec =
     enum-told-9
     settable-of-requires
     enum-told-10
-    key-in-requires
+    pipe-in-requires
     enum-told-11
     returns
     returns-2

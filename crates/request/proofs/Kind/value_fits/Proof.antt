@@ -38,8 +38,8 @@ is-settable-requires c κs = search needs
 enum-told-10 : tie.Need-enum-told-10
 enum-told-10 c = search needs
 
-is-key-requires : tie.Need-is-key-requires
-is-key-requires c κs = search needs
+is-pipe-requires : tie.Need-is-pipe-requires
+is-pipe-requires c κs = search needs
 
 enum-told-11 : tie.Need-enum-told-11
 enum-told-11 c = search needs
@@ -72,7 +72,7 @@ returns-9 : tie.Need-returns-9
 returns-9 c = rw (c .is-settable .ensures, c .before .enum-told9 .given .1)
 
 returns-10 : tie.Need-returns-10
-returns-10 c = rw (c .is-key .ensures, c .before .enum-told10 .given .1)
+returns-10 c = rw (c .is-pipe .ensures, c .before .enum-told10 .given .1)
 
 returns-11 : tie.Need-returns-11
 returns-11 c = rw (c .enum-told11 .given .1)
@@ -93,7 +93,7 @@ value-fits-spec =
     enum-told-9
     is-settable-requires
     enum-told-10
-    is-key-requires
+    is-pipe-requires
     enum-told-11
     returns
     returns-2

@@ -1,5 +1,5 @@
 use mathlib.Core.Path.{_∙_}
-use Rattle.translator.proofs.Bare.{chosen-bare}
+use Rattle.translator.proofs.Bare.{permitted-bare}
 use borrow.Author.Needs.{needs}
 use Rattle.translator.proofs.Translator.choose.Statement.{statement}
 use Rattle.translator.proofs.Translator.choose.Tie as tie
@@ -11,9 +11,7 @@ choose-requires : tie.Need-choose-requires
 choose-requires c κs = search needs
 
 returns : tie.Need-returns
-returns c =
-    let t = c .before .before .args .self in
-    c .choose .ensures ∙ rw (c .before .slots .ensures) (chosen-bare _ (t .count) (t .buffers))
+returns c = let t = c .before .before .args .self in c .choose .ensures ∙ rw (c .before .slots .ensures) (permitted-bare (t .count) _ (t .count) (t .buffers))
 
 pub choose-spec : {M : Type 1} → statement M
 choose-spec = tie.close (tie.spec slots-requires choose-requires returns)

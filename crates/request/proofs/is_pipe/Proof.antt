@@ -1,6 +1,6 @@
 use borrow.Author.Needs.{needs}
-use Rattle.request.proofs.is_key.Statement.{statement}
-use Rattle.request.proofs.is_key.Tie as tie
+use Rattle.request.proofs.is_pipe.Statement.{statement}
+use Rattle.request.proofs.is_pipe.Tie as tie
 
 either-requires : tie.Need-either-requires
 either-requires c κs = search needs
@@ -11,5 +11,5 @@ both-requires c κs = search needs
 returns : tie.Need-returns
 returns c = rw (c .both .ensures, c .before .either .ensures)
 
-pub is-key-spec : {M : Type 1} → statement M
-is-key-spec = tie.close (tie.spec either-requires both-requires returns)
+pub is-pipe-spec : {M : Type 1} → statement M
+is-pipe-spec = tie.close (tie.spec either-requires both-requires returns)

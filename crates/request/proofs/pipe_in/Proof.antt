@@ -1,6 +1,6 @@
 use borrow.Author.Needs.{needs}
-use Rattle.request.proofs.key_in.Statement.{statement}
-use Rattle.request.proofs.key_in.Tie as tie
+use Rattle.request.proofs.pipe_in.Statement.{statement}
+use Rattle.request.proofs.pipe_in.Tie as tie
 
 cast-t4 : tie.Need-cast-t4
 cast-t4 c = search needs
@@ -14,5 +14,5 @@ direction-in-requires c κs = search needs
 returns : tie.Need-returns
 returns c = rw (c .direction-in .ensures)
 
-pub key-in-spec : {M : Type 1} → statement M
-key-in-spec = tie.close (tie.spec cast-t4 cast-t7 direction-in-requires returns)
+pub pipe-in-spec : {M : Type 1} → statement M
+pipe-in-spec = tie.close (tie.spec cast-t4 cast-t7 direction-in-requires returns)

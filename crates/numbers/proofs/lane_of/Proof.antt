@@ -1,0 +1,13 @@
+use borrow.Author.Tests.{ne-eqb}
+use borrow.Author.Tests.{ne-eqb}
+use Rattle.numbers.proofs.lane_of.Statement.{statement}
+use Rattle.numbers.proofs.lane_of.Tie as tie
+
+returns : tie.Need-returns
+returns c = rw (c .match .keys1)
+
+returns-2 : tie.Need-returns-2
+returns-2 c = simp (ne-eqb _ _ (c .match .rest .1))
+
+pub lane-of-spec : {M : Type 1} → statement M
+lane-of-spec = tie.close (tie.spec returns returns-2)

@@ -1,0 +1,115 @@
+-- The hub's rules over any rules of the translator. A reader must believe: nothing; `OwnServed` says that with the translator's own they are
+-- the rules, so that a rule with one of the five replaced differs from them there and nowhere else.
+use mathlib.Core.Path.{_≡_}
+use mathlib.Core.Bool.{Bool, false, cond, _||_}
+use mathlib.Core.List.{List}
+use Prim.Native.Nat.{ℕ}
+use lib.Dec.{eqb}
+use Rattle.buffer.specs.declared.Lane.{Lane}
+use Rattle.buffer.specs.declared.Key.{Key}
+use Rattle.buffer.specs.declared.StartSplit.{StartSplit}
+use Rattle.buffer.specs.declared.Slot.{Slot}
+use Rattle.buffer.specs.declared.Slot.the-variants.{Empty, Pending, Ready, Old}
+use Rattle.buffer.specs.Key as key
+use Rattle.translator.specs.declared.Translator.{Translator}
+use Rattle.translator.specs.declared.Started.{Started}
+use Rattle.translator.specs.declared.Completed.{Completed}
+use Rattle.translator.specs.declared.Launched.{Launched}
+use Rattle.translator.specs.StartSplit.{startSplit}
+use Rattle.translator.specs.CompleteSplit.{completeSplit}
+use Rattle.translator.specs.Launch as launching
+use Rattle.translator.specs.Clear.{clearBuffer}
+use Rattle.translator.specs.ResetLane.{resetLane}
+use Rattle.numbers.specs.Named.{laneFrom}
+use Rattle.numbers.specs.Split.{splitFrom, keyFrom}
+use Rattle.request.specs.declared.Request.{Request}
+use Rattle.request.specs.declared.Request.the-variants.{Wrong, SetConfiguration, GetConfiguration, GetHubDescriptor, GetHubStatus, GetPortStatus, ClearHubFeature, ClearPortFeature, SetPortFeature, ClearTTBuffer, ResetTT}
+use Rattle.request.specs.Request.{requestOf}
+use Rattle.hub.specs.declared.Hub.{Hub}
+use Rattle.hub.specs.Hub.{withTranslator}
+use Rattle.hub.specs.Call.{Call, Control, Poll, Start, Complete, Launch, Deliver, Event, Tick, BusReset, Outcome, done, refuse}
+use Rattle.hub.specs.Requests.{keyed, byRequest, servedAlways}
+use Rattle.hub.specs.Rules.{startedAs, completedAs, launchedAs}
+use Rattle.hub.specs.Step.{within, roomy, heard, fitting, served, firstRefusal}
+use Rattle.runs.specs.Machine.{Machine, ruled}
+
+pub record TranslatorRules : Type 0 where
+  pub start : Translator → StartSplit → List ℕ → Started
+  pub complete : Translator → Key → Completed
+  pub launch : Translator → Launched
+  -- ClearTTBuffer
+  pub clear : Translator → Key → Translator
+  -- ResetTT
+  pub reset : Translator → Lane → Translator
+
+abbrev pub own : TranslatorRules
+own = record { start = startSplit; complete = completeSplit; launch = launching.launch; clear = clearBuffer; reset = resetLane }
+
+-- ---- one of them replaced
+
+abbrev pub withStart : (Translator → StartSplit → List ℕ → Started) → TranslatorRules
+withStart g = record { start = g; complete = own .complete; launch = own .launch; clear = own .clear; reset = own .reset }
+
+abbrev pub withComplete : (Translator → Key → Completed) → TranslatorRules
+withComplete g = record { start = own .start; complete = g; launch = own .launch; clear = own .clear; reset = own .reset }
+
+abbrev pub withLaunch : (Translator → Launched) → TranslatorRules
+withLaunch g = record { start = own .start; complete = own .complete; launch = g; clear = own .clear; reset = own .reset }
+
+abbrev pub withClear : (Translator → Key → Translator) → TranslatorRules
+withClear g = record { start = own .start; complete = own .complete; launch = own .launch; clear = g; reset = own .reset }
+
+abbrev pub withReset : (Translator → Lane → Translator) → TranslatorRules
+withReset g = record { start = own .start; complete = own .complete; launch = own .launch; clear = own .clear; reset = g }
+
+-- ---- the hub over them
+
+abbrev pub requestBy : TranslatorRules → Hub → Lane → Request → Outcome
+requestBy r h y (Wrong f) = byRequest h y (Wrong f)
+requestBy r h y (SetConfiguration on) = byRequest h y (SetConfiguration on)
+requestBy r h y GetConfiguration = byRequest h y GetConfiguration
+requestBy r h y (GetHubDescriptor n) = byRequest h y (GetHubDescriptor n)
+requestBy r h y GetHubStatus = byRequest h y GetHubStatus
+requestBy r h y (GetPortStatus n) = byRequest h y (GetPortStatus n)
+requestBy r h y ClearHubFeature = byRequest h y ClearHubFeature
+requestBy r h y (ClearPortFeature n f) = byRequest h y (ClearPortFeature n f)
+requestBy r h y (SetPortFeature n f) = byRequest h y (SetPortFeature n f)
+requestBy r h y (ClearTTBuffer k) = done (withTranslator h (r .clear (h .translator) (keyed y k)))
+requestBy r h y ResetTT = done (withTranslator h (r .reset (h .translator) y))
+
+abbrev pub servedBy : TranslatorRules → Hub → Call → Outcome
+servedBy r h (Control z s room) =
+    let q = requestOf (h .identity .ports) s in
+    cond (h .configured || servedAlways q) (requestBy r h (laneFrom z) q) (refuse 2 h)
+servedBy r h (Poll z room) = served h (Poll z room)
+servedBy r h (Start z p t f g a e l) = startedAs h (r .start (h .translator) (splitFrom z p t f g a e) l)
+servedBy r h (Complete z a e d room) = completedAs h (r .complete (h .translator) (keyFrom z a e d))
+servedBy r h (Launch room) = launchedAs h (r .launch (h .translator))
+servedBy r h (Deliver x l) = served h (Deliver x l)
+servedBy r h (Event e n) = served h (Event e n)
+servedBy r h Tick = served h Tick
+servedBy r h BusReset = served h BusReset
+
+abbrev pub OwnServed : Type 0
+OwnServed = (h : Hub) (c : Call) → servedBy own h c ≡ served h c
+
+-- the checks in their order, then the rule f
+abbrev pub checked : (Hub → Call → Outcome) → Hub → Call → Outcome
+checked f h c =
+    let n = firstRefusal (within h c) (roomy c) (heard h c) (fitting h c) in
+    cond (eqb n 0) (f h c) (refuse n h)
+
+abbrev pub stepBy : TranslatorRules → Hub → Call → Outcome
+stepBy r = checked (servedBy r)
+
+abbrev pub altered : TranslatorRules → Machine
+altered r = ruled (stepBy r)
+
+-- ---- a search by another test of keys
+
+-- it holds a key that passes m
+abbrev pub holdsKey : (Key → Bool) → Slot → Bool
+holdsKey m Empty = false
+holdsKey m (Pending s p) = m (key.keyOf s)
+holdsKey m (Ready s r) = m (key.keyOf s)
+holdsKey m (Old s r) = m (key.keyOf s)
