@@ -22,9 +22,10 @@ use Rattle.runs.specs.Demand2.{Demand2}
 use Rattle.runs.specs.Demand3.{Marks, onlyKey, everyKeyOf, SameCalls, SameAnswers, Hidden, AllExplained, Demand3}
 use Rattle.runs.specs.Order.{AllOrdered, LaunchOrder}
 use Rattle.runs.specs.ErrorReports.{AllShow, ErrorReports}
-use Rattle.runs.specs.Tally.{tallyOf, activeIn, past, TallyHolds}
+use Rattle.runs.specs.Tally.{tallyOf, activeBuffers, past, TallyHolds}
 use Rattle.runs.specs.Share.{holding, AllShared, LaneShare}
 use Rattle.runs.specs.Refusals.{Refusal, numberOf}
+use Rattle.runs.proofs.HidingHub.{with-bytes}
 use Rattle.runs.proofs.Theorems.{demand-3}
 use Rattle.runs.proofs.LineSteps.{launch-order}
 use Rattle.runs.proofs.Reporting.{error-reports}
@@ -98,21 +99,6 @@ module _ (h : Hub) (v : ValidHub h) where
 
   gives-taken : (x : Asked) → gives (written h) x ≡ gaveBy (step h (callOf x)) (replyOf x)
   gives-taken x = entry-taken (written h) (record { ok = true; hub = h }) (sym (area-exact .again h v)) refl (callOf x) (replyOf x)
-
-  abbrev with-bytes : hub.Answer → List ℕ → hub.Answer
-  with-bytes a b =
-      record {
-        number = a .number;
-        pid = a .pid;
-        transfer = a .transfer;
-        lane = a .lane;
-        address = a .address;
-        endpoint = a .endpoint;
-        direction = a .direction;
-        lowspeed = a .lowspeed;
-        toggle = a .toggle;
-        bytes = b;
-      }
 
   answer-same : (x : Asked) → seen (gives (written h) x) ≡ step h (callOf x) .answer
   answer-same x =
@@ -198,11 +184,11 @@ read-reached m xs =
     ap (λ (a : List ℕ). readOf a .hub) (area-follows m xs)
     ∙ ap (λ (r : Read). r .hub) (area-exact .again (afterFrom rules (newHubOf (m .numbers)) (map callOf xs)) (reached (m .numbers) (map callOf xs)))
 
-carried-tally : TallyHolds entries (λ a. activeIn (readOf a .hub))
+carried-tally : TallyHolds entries (λ a. activeBuffers (readOf a .hub))
 carried-tally m xs =
-    subst (λ (h : Hub). tallyOf (past [] (run entries m xs)) .stored ≡ tallyOf (past [] (run entries m xs)) .answered + tallyOf (past [] (run entries m xs)) .emptied + activeIn h)
+    subst (λ (h : Hub). tallyOf (past [] (run entries m xs)) .stored ≡ tallyOf (past [] (run entries m xs)) .answered + tallyOf (past [] (run entries m xs)) .emptied + activeBuffers h)
     (sym (read-reached m xs))
-    (subst (λ (es : List Event). tallyOf (past [] es) .stored ≡ tallyOf (past [] es) .answered + tallyOf (past [] es) .emptied + activeIn (afterFrom rules (newHubOf (m .numbers)) (map callOf xs)))
+    (subst (λ (es : List Event). tallyOf (past [] es) .stored ≡ tallyOf (past [] es) .answered + tallyOf (past [] es) .emptied + activeBuffers (afterFrom rules (newHubOf (m .numbers)) (map callOf xs)))
     (sym (demand-2 m xs)) (tally-holds (m .numbers) (map callOf xs)))
 
 -- ---- refusals

@@ -15,7 +15,7 @@ use Rattle.runs.specs.Demand2.{Demand2, reachedBy}
 use Rattle.runs.specs.Demand3.{Demand3}
 use Rattle.runs.specs.Order.{LaunchOrder}
 use Rattle.runs.specs.ErrorReports.{ErrorReports}
-use Rattle.runs.specs.Tally.{activeIn, TallyHolds}
+use Rattle.runs.specs.Tally.{activeBuffers, TallyHolds}
 use Rattle.runs.specs.Share.{LaneShare}
 use Rattle.runs.specs.Refusals.{Refusal, numberOf, Due}
 use Rattle.area.specs.Written.{written, areaLength}
@@ -125,4 +125,4 @@ pub record EntryClaims : Type 0 where
   pub error-reports : ErrorReports entries
   pub lane-share : LaneShare entries
   -- pending or ready now: of the hub that is read from the area
-  pub tally-holds : TallyHolds entries (λ a. activeIn (readOf a .hub))
+  pub tally-holds : TallyHolds entries (λ a. activeBuffers (readOf a .hub))

@@ -23,10 +23,6 @@ use Rattle.runs.specs.Order.{callAt, isFrom}
 use Rattle.runs.specs.Tally.{storesIt, answersIt, emptiesIt, isStoredAt, isAnsweredAt, isEmptiedAt}
 use Rattle.runs.proofs.Histories.{Below, stored-below, not-new, some-inj, one-key}
 
--- stored, and neither answered nor emptied
-abbrev pub waitsAt : History → ℕ → Bool
-waitsAt h s = isStoredAt h s && (not (isAnsweredAt h s) && not (isEmptiedAt h s))
-
 pub is-at : (o : Option ℕ) (s : ℕ) → isAt o s ≡ true → o ≡ some s
 is-at none s e = absurd (false≢true e)
 is-at (some n) s e = ap some (eqb-true n s e)

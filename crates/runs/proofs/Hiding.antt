@@ -46,6 +46,7 @@ use Rattle.translator.specs.Launch.{launched, launchAt, launchBy, launch}
 use Rattle.translator.specs.Deliver.{undelivered, delivered, deliverBy, deliver}
 use Rattle.translator.specs.Clear.{clearAt, clearBuffer}
 use Rattle.translator.proofs.Finding.{FindSays, find-says}
+use Rattle.runs.specs.Altered.{holdsKey}
 use Rattle.runs.specs.Demand3.{Marks}
 
 -- the bytes, or as many zeros
@@ -89,22 +90,15 @@ blank-payload : (b : Bool) (l : List ℕ) → payloadOf (blank b l) ≡ blankP b
 unfolding payloadOf
 blank-payload b l = rw (blank-take b 64 l, length-blank b (take 64 l), blank-padded b (take 64 l))
 
--- it holds a marked key
-abbrev pub covered : Marks → Slot → Bool
-covered m Empty = false
-covered m (Pending s p) = m (key.keyOf s)
-covered m (Ready s r) = m (key.keyOf s)
-covered m (Old s r) = m (key.keyOf s)
-
-covered-reranked : (bs : List Buffer) (m : Marks) (s : Slot) → covered m (reranked bs s) ≡ covered m s
-covered-reranked bs m Empty = refl
-covered-reranked bs m (Pending s p) = refl
-covered-reranked bs m (Ready s r) = refl
-covered-reranked bs m (Old s r) = refl
+holds-key-reranked : (bs : List Buffer) (m : Marks) (s : Slot) → holdsKey m (reranked bs s) ≡ holdsKey m s
+holds-key-reranked bs m Empty = refl
+holds-key-reranked bs m (Pending s p) = refl
+holds-key-reranked bs m (Ready s r) = refl
+holds-key-reranked bs m (Old s r) = refl
 
 module _ (m : Marks) where
   abbrev pub hideB : Buffer → Buffer
-  hideB b = record { slot = b .slot; payload = blankP (covered m (b .slot)) (b .payload) }
+  hideB b = record { slot = b .slot; payload = blankP (holdsKey m (b .slot)) (b .payload) }
 
   abbrev pub hideT : Translator → Translator
   hideT t = record { buffers = map hideB (t .buffers); count = t .count; low = t .low }
@@ -112,7 +106,7 @@ module _ (m : Marks) where
   -- whether a delivery now may be blanked: what runs is marked, or nothing runs
   abbrev pub shown : List Buffer → LowSide → Bool
   shown bs Idle = true
-  shown bs (Running n) = covered m (at bs (n .0) .slot)
+  shown bs (Running n) = holdsKey m (at bs (n .0) .slot)
   shown bs Abandoned = true
 
   -- ---- the searches do not see the bytes
@@ -175,7 +169,7 @@ module _ (m : Marks) where
   hide-ranked bs = go bs
     where
       one : (b : Buffer) → rankedIn (map hideB bs) (hideB b) ≡ hideB (rankedIn bs b)
-      one b = rw (hide-reranked bs (b .slot), covered-reranked bs m (b .slot))
+      one b = rw (hide-reranked bs (b .slot), holds-key-reranked bs m (b .slot))
 
       go : (cs : List Buffer) → map (rankedIn (map hideB bs)) (map hideB cs) ≡ map hideB (map (rankedIn bs) cs)
       go [] = refl
@@ -216,7 +210,7 @@ module _ (m : Marks) where
   hideCompleted b o = record { next = hideT (o .next); answer = o .answer; payload = blankP b (o .payload) }
 
   -- a buffer that holds k is marked exactly if k is
-  under : (k : Key) (s : Slot) → holds k s ≡ true → covered m s ≡ m k
+  under : (k : Key) (s : Slot) → holds k s ≡ true → holdsKey m s ≡ m k
   under k Empty e = absurd (true≢false (sym e))
   under k (Pending s p) e = ap m (same-true (key.keyOf s) k e)
   under k (Ready s r) e = ap m (same-true (key.keyOf s) k e)
@@ -244,7 +238,7 @@ module _ (m : Marks) where
           slot Empty e = rw (blank-none (m k))
           slot (Pending s q) e = rw (blank-none (m k))
           slot (Ready s x) e =
-              rw (hide-set (t .buffers) (n .0) (record { slot = Old s x; payload = p }), hide-given (m k) x p, sym (sym (under k (at (t .buffers) (n .0) .slot) (r .passes)) ∙ ap (covered m) e))
+              rw (hide-set (t .buffers) (n .0) (record { slot = Old s x; payload = p }), hide-given (m k) x p, sym (sym (under k (at (t .buffers) (n .0) .slot) (r .passes)) ∙ ap (holdsKey m) e))
           slot (Old s x) e = rw (hide-given (m k) x p)
 
   -- whether what is launched is marked
@@ -260,7 +254,7 @@ module _ (m : Marks) where
   unfolding launch
   hide-launch t = go (t .low)
     where
-      slot : (n : BufferNumber) (s : Slot) → at (t .buffers) (n .0) .slot ≡ s → launched (hideT t) n (blankP (covered m s) (at (t .buffers) (n .0) .payload)) s ≡ hideLaunched (launched t n (at (t .buffers) (n .0) .payload) s)
+      slot : (n : BufferNumber) (s : Slot) → at (t .buffers) (n .0) .slot ≡ s → launched (hideT t) n (blankP (holdsKey m s) (at (t .buffers) (n .0) .payload)) s ≡ hideLaunched (launched t n (at (t .buffers) (n .0) .payload) s)
       slot n Empty e = refl
       slot n (Pending s p) e = refl
       slot n (Ready s r) e = refl
@@ -279,7 +273,7 @@ module _ (m : Marks) where
   unfolding deliver
   hide-deliver t r l = rw (length-blank (shown (t .buffers) (t .low)) l) (go (resultLength r (length l)) (t .low))
     where
-      slot : (n : BufferNumber) (s : Slot) → at (t .buffers) (n .0) .slot ≡ s → delivered (hideT t) r (blank (covered m s) l) n s ≡ hideDelivered (delivered t r l n s)
+      slot : (n : BufferNumber) (s : Slot) → at (t .buffers) (n .0) .slot ≡ s → delivered (hideT t) r (blank (holdsKey m s) l) n s ≡ hideDelivered (delivered t r l n s)
       slot n Empty e = refl
       slot n (Ready s x) e = refl
       slot n (Old s x) e = refl

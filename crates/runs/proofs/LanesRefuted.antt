@@ -32,7 +32,7 @@ use Rattle.runs.specs.History.{keyOf, asks, openAfter, isOpen, stores, l
 use Rattle.runs.specs.Order.{callAt}
 use Rattle.runs.specs.Machine.{newHubOf, rules, runFrom, afterFrom}
 use Rattle.runs.specs.Demand3.{same, deliver, SameCalls, SameAnswers, LaneHidden}
-use Rattle.runs.specs.Tally.{storesIt, answersIt, emptiesIt, isStoredAt, isAnsweredAt, isEmptiedAt, countTo, tallyOf, activeIn, past, TallyHolds}
+use Rattle.runs.specs.Tally.{storesIt, answersIt, emptiesIt, isStoredAt, isAnsweredAt, isEmptiedAt, countTo, tallyOf, activeBuffers, past, TallyHolds}
 use Rattle.runs.specs.Share.{AllShared, LaneShare}
 use Rattle.runs.specs.Refusals.{nak, Refusals}
 use Rattle.runs.specs.Altered.{stepBy, altered}
@@ -59,7 +59,7 @@ without-lanes claim =
     omega (arith, z)
 
 -- one stored by lane 0, neither answered nor emptied, and nothing pending
-both-emptied : ¬ (TallyHolds (altered bothEmptied) activeIn)
+both-emptied : ¬ (TallyHolds (altered bothEmptied) activeBuffers)
 unfolding bench newFits runFrom padded payloadOf sameKey numbersFit startFits resultLength front swept find chosen permitted pass tally ranked earliest stored startSplit completeSplit launching.launch delivering.deliver clearBuffer splitNamed splitFrom keyNamed keyFrom kindOf asked requestOf configuredAs requested within roomy heard fitting served asks openAfter isOpen stores lastStored afterFrom past callAt storesIt answersIt emptiesIt isStoredAt isAnsweredAt isEmptiedAt countTo tallyOf
 both-emptied claim = let z : _≡_ {A = ℕ} 1 0 = claim bench (configure ∷ in-to 5 ∷ reset-one ∷ []) in omega (arith, z)
 

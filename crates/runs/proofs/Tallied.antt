@@ -40,7 +40,7 @@ use Rattle.hub.proofs.Order.{by-checks}
 use Rattle.runs.specs.History.{Event, History, Asks, nothing, starts, completes, launches, delivers, clears, resets, empties, requestAsks, asks, isDone, isResult, isOpen, stores, lastStored, isAt}
 use Rattle.runs.specs.Order.{callAt, isFrom}
 use Rattle.runs.specs.Machine.{rules, newHubOf, runFrom, afterFrom}
-use Rattle.runs.specs.Tally.{storesIt, answersIt, emptiesIt, isStoredAt, isAnsweredAt, isEmptiedAt, countTo, tallyOf, activeIn, past, TallyHolds}
+use Rattle.runs.specs.Tally.{storesIt, answersIt, emptiesIt, isStoredAt, isAnsweredAt, isEmptiedAt, waitsAt, countTo, tallyOf, activeBuffers, past, TallyHolds}
 use Rattle.runs.proofs.Histories.{Below, stored-below, some-inj, one-key}
 use Rattle.runs.proofs.Invariant.{Good, Inv, Unheld}
 use Rattle.runs.proofs.Kept.{ev, Tied}
@@ -48,7 +48,7 @@ use Rattle.runs.proofs.Steps.{complete-key, step-kept}
 use Rattle.runs.proofs.Theorems.{new-tied}
 use Rattle.runs.proofs.Line.{keyIn, holds-key}
 use Rattle.runs.proofs.Counting.{count-sum, Matched, matched}
-use Rattle.runs.proofs.Fates.{waitsAt, is-at, waiting, waits, open-waits, Opener, opener}
+use Rattle.runs.proofs.Fates.{is-at, waiting, waits, open-waits, Opener, opener}
 
 -- ---- an open key is held
 
@@ -322,11 +322,11 @@ tally-sum h t tied never =
     omega (arith, active-count h t tied, count-sum (isStoredAt h) (isAnsweredAt h) (isEmptiedAt h) (waitsAt h) (length h) (λ s. parted (isStoredAt h s) (isAnsweredAt h s) (isEmptiedAt h s) (answered-stored h s) (emptied-stored h s) (never s)))
 
 tally-after : (cs : List Call) (h : History) (hub : Hub) → Tied h (hub .translator) → Never h
-    → tallyOf (past h (runFrom rules hub cs)) .stored ≡ tallyOf (past h (runFrom rules hub cs)) .answered + tallyOf (past h (runFrom rules hub cs)) .emptied + activeIn (afterFrom rules hub cs)
+    → tallyOf (past h (runFrom rules hub cs)) .stored ≡ tallyOf (past h (runFrom rules hub cs)) .answered + tallyOf (past h (runFrom rules hub cs)) .emptied + activeBuffers (afterFrom rules hub cs)
 unfolding runFrom afterFrom past
 tally-after [] h hub tied never = tally-sum h (hub .translator) tied never
 tally-after (c ∷ cs) h hub tied never = tally-after cs (ev c (step hub c .answer) ∷ h) (step hub c .next) (step-kept h hub tied c .0) (never-step h hub tied never c)
 
-pub tally-holds : TallyHolds rules activeIn
+pub tally-holds : TallyHolds rules activeBuffers
 unfolding isAnsweredAt
 tally-holds n cs = tally-after cs [] (newHubOf n) (new-tied n) (λ s p. absurd (false≢true p))

@@ -25,17 +25,17 @@ use Rattle.hub.specs.Step.{within, roomy, heard, fitting, served}
 use Rattle.runs.specs.History.{asks, openAfter, isOpen, stores, lastStored}
 use Rattle.runs.specs.Machine.{runFrom, afterFrom}
 use Rattle.runs.specs.Altered.{altered}
-use Rattle.runs.specs.Tally.{storesIt, answersIt, emptiesIt, isStoredAt, isAnsweredAt, isEmptiedAt, countTo, tallyOf, activeIn, past, TallyHolds}
+use Rattle.runs.specs.Tally.{storesIt, answersIt, emptiesIt, isStoredAt, isAnsweredAt, isEmptiedAt, countTo, tallyOf, activeBuffers, past, TallyHolds}
 use Rattle.runs.specs.TallyMistakes.{givenStaysReady, emptiedAnswers, TallyMistakesShutOut}
 use Rattle.runs.proofs.Refuted.{bench, configure, in-to, complete}
 
 -- one stored, one answered, and still one ready
-stays-ready : ¬ (TallyHolds (altered givenStaysReady) activeIn)
+stays-ready : ¬ (TallyHolds (altered givenStaysReady) activeBuffers)
 unfolding bench newFits runFrom padded payloadOf sameKey numbersFit startFits resultLength front swept find chosen permitted pass tally ranked earliest stored startSplit completeSplit launching.launch delivering.deliver clearBuffer splitNamed splitFrom keyNamed keyFrom kindOf asked requestOf configuredAs requested within roomy heard fitting served asks openAfter isOpen stores lastStored afterFrom past storesIt answersIt emptiesIt isStoredAt isAnsweredAt isEmptiedAt countTo tallyOf
 stays-ready claim = let z : _≡_ {A = ℕ} 1 2 = claim bench (configure ∷ in-to 5 ∷ Launch 64 ∷ Deliver 3 (9 ∷ []) ∷ complete 5 1 ∷ []) in omega (arith, z)
 
 -- one stored, emptied, and then answered
-answered-too : ¬ (TallyHolds (altered emptiedAnswers) activeIn)
+answered-too : ¬ (TallyHolds (altered emptiedAnswers) activeBuffers)
 unfolding bench newFits runFrom padded payloadOf sameKey numbersFit startFits resultLength front swept find chosen permitted pass tally ranked earliest stored startSplit completeSplit launching.launch delivering.deliver clearBuffer splitNamed splitFrom keyNamed keyFrom kindOf asked requestOf configuredAs requested within roomy heard fitting served asks openAfter isOpen stores lastStored afterFrom past storesIt answersIt emptiesIt isStoredAt isAnsweredAt isEmptiedAt countTo tallyOf
 answered-too claim =
     let z : _≡_ {A = ℕ} 1 2 = claim bench (configure ∷ in-to 5 ∷ Control 0 (0x23 ∷ 0x08 ∷ 0x51 ∷ 0x80 ∷ 1 ∷ 0 ∷ 0 ∷ 0 ∷ []) 64 ∷ complete 5 1 ∷ []) in omega (arith, z)

@@ -22,7 +22,8 @@ use Rattle.runs.specs.Demand3.{Marks, onlyKey, everyKeyOf, SameCall, sam
 use Rattle.runs.proofs.Invariant.{LowOk, RunsFor, empty-kept}
 use Rattle.runs.proofs.Kept.{ev, Tied}
 use Rattle.runs.proofs.Steps.{step-kept}
-use Rattle.runs.proofs.Hiding.{blank, length-blank, covered, hideB, hideT, shown, hide-at}
+use Rattle.runs.specs.Altered.{holdsKey}
+use Rattle.runs.proofs.Hiding.{blank, length-blank, hideB, hideT, shown, hide-at}
 use Rattle.runs.proofs.HidingHub.{hideH, hideC, excepted, hideA, hideO, step-hide}
 
 -- ---- a new hub
@@ -62,7 +63,7 @@ module _ (m : Marks) where
       → shown m (t .buffers) (t .low) ≡ true
   shown-for h t s tied f k = go (t .low) (tied .inv .low-ok)
     where
-      by : (x : Slot) → RunsFor h x → covered m x ≡ true
+      by : (x : Slot) → RunsFor h x → holdsKey m x ≡ true
       by Empty w = absurd w
       by (Pending q p) w = ap m (for-key (sym w ∙ f)) ∙ k
       by (Ready q r) w = absurd w

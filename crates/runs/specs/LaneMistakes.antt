@@ -19,7 +19,7 @@ use Rattle.translator.specs.StartSplit.{startBy}
 use Rattle.translator.specs.CompleteSplit.{completeAt}
 use Rattle.runs.specs.Altered.{TranslatorRules, withStart, withComplete, withReset, stepBy, altered, holdsKey}
 use Rattle.runs.specs.Demand3.{LaneHidden}
-use Rattle.runs.specs.Tally.{activeIn, TallyHolds}
+use Rattle.runs.specs.Tally.{activeBuffers, TallyHolds}
 use Rattle.runs.specs.Share.{LaneShare}
 use Rattle.runs.specs.Refusals.{Refusals}
 
@@ -66,7 +66,7 @@ limitFirst b k bs = cond (mayStore b (heldBy (k .lane) bs)) (chosen k bs) LimitR
 
 pub record LaneMistakesShutOut : Type 0 where
   pub without-lanes : ¬ (LaneHidden (altered withoutLanes))
-  pub both-emptied : ¬ (TallyHolds (altered bothEmptied) activeIn)
+  pub both-emptied : ¬ (TallyHolds (altered bothEmptied) activeBuffers)
   pub no-limit : ¬ (LaneShare (altered (startingBy noLimit)))
   pub old-count : ¬ (LaneShare (altered (startingBy oldCount)))
   pub own-old-passes : ¬ (LaneShare (altered (startingBy ownOldPasses)))

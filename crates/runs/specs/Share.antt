@@ -4,18 +4,18 @@
 use Prim.Native.Nat.{ℕ, _<_}
 use mathlib.Core.Path.{_≡_}
 use mathlib.Core.List.{List, [], _∷_}
-use mathlib.Core.Bool.{Bool, not, _&&_}
+use mathlib.Core.Bool.{Bool, _&&_}
 use lib.ListN.{length}
 use Rattle.buffer.specs.declared.Lane.{Lane}
 use Rattle.hub.specs.Call.{Answer}
 use Rattle.runs.specs.History.{Event, History, Asks, nothing, starts, completes, launches, delivers, clears, resets, empties, asks}
 use Rattle.runs.specs.Order.{callAt, isFrom}
 use Rattle.runs.specs.Machine.{Machine, run}
-use Rattle.runs.specs.Tally.{isStoredAt, isAnsweredAt, isEmptiedAt, countTo, past}
+use Rattle.runs.specs.Tally.{waitsAt, countTo, past}
 
--- the start-split s is one of the lane, stored, and neither answered nor emptied
+-- the start-split s is one of the lane, and waits: stored, and neither answered nor emptied
 abbrev pub holdsAt : Lane → History → ℕ → Bool
-holdsAt z h s = isFrom z (callAt h s) && (isStoredAt h s && (not (isAnsweredAt h s) && not (isEmptiedAt h s)))
+holdsAt z h s = isFrom z (callAt h s) && waitsAt h s
 
 -- how many buffers the lane holds pending or ready
 abbrev pub holding : Lane → History → ℕ

@@ -66,6 +66,10 @@ unfoldable pub isEmptiedAt : History → ℕ → Bool
 isEmptiedAt [] s = false
 isEmptiedAt (e ∷ h) s = (emptiesIt (asks (e .call)) (e .answer) h s && (isStoredAt h s && not (isAnsweredAt h s))) || isEmptiedAt h s
 
+-- stored, and neither answered nor emptied
+abbrev pub waitsAt : History → ℕ → Bool
+waitsAt h s = isStoredAt h s && (not (isAnsweredAt h s) && not (isEmptiedAt h s))
+
 -- ---- the tally
 
 -- how many numbers below n pass a test
@@ -87,8 +91,8 @@ tallyOf h =
     }
 
 -- buffers pending or ready
-abbrev pub activeIn : Hub → ℕ
-activeIn h = tally isActive (h .translator .buffers)
+abbrev pub activeBuffers : Hub → ℕ
+activeBuffers h = tally isActive (h .translator .buffers)
 
 -- the events of a run as a history, the latest first, behind what came before
 unfoldable pub past : History → List Event → History

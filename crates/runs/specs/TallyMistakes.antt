@@ -14,7 +14,7 @@ use Rattle.translator.specs.Translator.{at}
 use Rattle.translator.specs.Search.{find}
 use Rattle.translator.specs.CompleteSplit.{completeSplit}
 use Rattle.runs.specs.Altered.{TranslatorRules, withComplete, withClear, altered}
-use Rattle.runs.specs.Tally.{activeIn, TallyHolds}
+use Rattle.runs.specs.Tally.{activeBuffers, TallyHolds}
 
 -- a complete-split gives the result and leaves the buffer ready
 abbrev pub givenStaysReady : TranslatorRules
@@ -36,5 +36,5 @@ abbrev pub emptiedAnswers : TranslatorRules
 emptiedAnswers = withClear (λ t k. clearShut t (find (holds k) (take (t .count) (t .buffers))))
 
 pub record TallyMistakesShutOut : Type 0 where
-  pub given-stays-ready : ¬ (TallyHolds (altered givenStaysReady) activeIn)
-  pub emptied-answers : ¬ (TallyHolds (altered emptiedAnswers) activeIn)
+  pub given-stays-ready : ¬ (TallyHolds (altered givenStaysReady) activeBuffers)
+  pub emptied-answers : ¬ (TallyHolds (altered emptiedAnswers) activeBuffers)

@@ -10,7 +10,7 @@ ghost use Rattle.runs.specs.Order.{LaunchOrder};
 ghost use Rattle.runs.specs.ErrorReports.{ErrorReports};
 ghost use Rattle.runs.specs.ReportMistakes.{ReportMistakesShutOut};
 ghost use Rattle.runs.specs.Mistakes.{MistakesShutOut};
-ghost use Rattle.runs.specs.Tally.{activeIn, TallyHolds};
+ghost use Rattle.runs.specs.Tally.{activeBuffers, TallyHolds};
 ghost use Rattle.runs.specs.Share.{LaneShare};
 ghost use Rattle.runs.specs.LaneMistakes.{LaneMistakesShutOut};
 ghost use Rattle.runs.specs.TallyMistakes.{TallyMistakesShutOut};
@@ -59,7 +59,7 @@ fn mistakes_shut_out()
 
 // Start-splits stored are those answered, those emptied before that, and those pending or ready now.
 fn tally_holds()
-    ensures { λ _. ⌜ TallyHolds rules activeIn ⌝ }
+    ensures { λ _. ⌜ TallyHolds rules activeBuffers ⌝ }
 {}
 
 // Rules with one mistake break it.

@@ -8,6 +8,7 @@ use crate::form;
 use crate::hub::{Call, Hub};
 use crate::lanes;
 use crate::library::{Lent, Library, Linked, RawAnswer};
+use crate::mistakes::matched_by;
 use crate::request::Request;
 use crate::translator::{Buffer, Lane, LowSide, Start, Translator};
 
@@ -156,16 +157,7 @@ pub fn reuse_without_lane(call: &Call, lent: &mut Lent) -> RawAnswer {
 }
 
 pub fn complete_without_lane(call: &Call, lent: &mut Lent) -> RawAnswer {
-    let answer = Linked.call(call, lent);
-    match *call {
-        Call::CompleteSplit { lane, address, endpoint, direction, space }
-            if answer.number == answer::STALL =>
-        {
-            let lane = 1 - lane;
-            Linked.call(&Call::CompleteSplit { lane, address, endpoint, direction, space }, lent)
-        }
-        _ => answer,
-    }
+    matched_by(call, lent, |lane, _| *lane = 1 - *lane)
 }
 
 /// The hub before a request that was done, and the request.

@@ -75,17 +75,22 @@ impl Library for Mistaken {
     }
 }
 
-fn without_direction(call: &Call, lent: &mut Lent) -> RawAnswer {
+/// A complete-split without a match is asked again, with the change to its
+/// lane and direction.
+pub fn matched_by(call: &Call, lent: &mut Lent, change: fn(&mut u32, &mut u32)) -> RawAnswer {
     let answer = Linked.call(call, lent);
-    match *call {
-        Call::CompleteSplit { lane, address, endpoint, direction, space }
-            if answer.number == answer::STALL =>
-        {
-            let direction = 1 - direction;
-            Linked.call(&Call::CompleteSplit { lane, address, endpoint, direction, space }, lent)
+    let mut again = call.clone();
+    match &mut again {
+        Call::CompleteSplit { lane, direction, .. } if answer.number == answer::STALL => {
+            change(lane, direction);
+            Linked.call(&again, lent)
         }
         _ => answer,
     }
+}
+
+fn without_direction(call: &Call, lent: &mut Lent) -> RawAnswer {
+    matched_by(call, lent, |_, direction| *direction = 1 - *direction)
 }
 
 fn older_tail(call: &Call, lent: &mut Lent) -> RawAnswer {
