@@ -7,6 +7,11 @@
  * the translator while a packet of the first is on its way.  Computers, front
  * end and microphones are simulated here.  At the end each take must have
  * arrived whole, or up to the unplugging, in its own lane.
+ *
+ *   firmware [FILE]
+ *
+ * dumps the area into FILE as it stands before the start-split that is
+ * refused, so that `why` can tell the reason (docs/WHY.md).
  */
 
 #include "grimholdi.h"
@@ -50,6 +55,7 @@ static uint8_t area[GRIMHOLDI_AREA_LENGTH_MAX];
 static size_t area_len;
 static uint8_t reply[GRIMHOLDI_REPLY_LENGTH];
 static computer computers[COMPUTERS];
+static const char *dump_name; /* or NULL */
 static unsigned now; /* ms */
 static int failed;
 
@@ -217,6 +223,22 @@ static void serve_changes(computer *of)
         give_up(of);
 }
 
+/* All that `why` needs of the hub. */
+static void dump_area(void)
+{
+    FILE *file;
+
+    if (dump_name == NULL)
+        return;
+    file = fopen(dump_name, "wb");
+    if (file == NULL) {
+        expect(0, "dump: file not opened");
+        return;
+    }
+    expect(fwrite(area, 1, area_len, file) == area_len, "dump");
+    expect(fclose(file) == 0, "dump");
+}
+
 static uint8_t other_data(uint8_t data)
 {
     return data == GRIMHOLDI_RESULT_DATA0 ? GRIMHOLDI_RESULT_DATA1
@@ -229,6 +251,7 @@ static void start_reading(const computer *of)
     start_split(of, TAKE, GRIMHOLDI_DONE, "");
     if (now == FIRST_READ && of == &computers[0]) {
         start_split(of, BUTTONS, GRIMHOLDI_DONE, "");
+        dump_area();
         start_split(of, METER, GRIMHOLDI_NAK, "  the limit");
     }
 }
@@ -420,8 +443,10 @@ static void check_takes(void)
     }
 }
 
-int main(void)
+int main(int argc, char **argv)
 {
+    if (argc > 1)
+        dump_name = argv[1];
     printf("  ms R request, P poll: lane; E line event; S start-split,\n"
            "     L launch, D deliver, C complete-split: "
            "lane:address:endpoint\n\n");

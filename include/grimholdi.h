@@ -58,14 +58,23 @@
  *   the area.  Polls and Get requests leave the area as it is.  Setup bytes
  *   and payloads are only read.
  *
+ * Why a call is answered as it is
+ *
+ *   Beside each call that takes a hub stands grimholdi_why_..: it takes
+ *   the area and the same numbers and bytes, and tells why the call would be
+ *   answered as it would.  The call is not made: the area is only read, there
+ *   is no reply space, and reply_len, any number, is the length of the one the
+ *   call would get.  A firmware that explains nothing links none of them.
+ *
  * What nothing can check
  *
  *   Each pointer must hold as many bytes as its length says, and the area and
- *   the reply space must be writable.  (NULL, 0) is an empty slice; it is
- *   permitted for every pointer and length.  The area must overlap neither the
- *   reply space nor the setup or payload bytes, and the reply space must not
- *   overlap the setup bytes.  Two calls on one area must not run at the same
- *   time; calls on different areas may.
+ *   the reply space must be writable, but for an area that is only explained.
+ *   (NULL, 0) is an empty slice; it is permitted for every pointer and length.
+ *   The area must overlap neither the reply space nor the setup or payload
+ *   bytes, and the reply space must not overlap the setup bytes.  Two calls on
+ *   one area must not run at the same time, unless both only explain; calls on
+ *   different areas may.
  */
 
 #ifndef GRIMHOLDI_H
@@ -227,6 +236,68 @@ typedef struct {
 } grimholdi_answer;
 
 /*
+ * Why a call would be answered so: `kind`, `value` and `changes`.
+ *
+ *   NUMBER     SILENT, OUTSIDE, NO_SPACE or NOT_NOW is answered, and `value`
+ *              is that number, 5 to 8.  An area that is refused gives OUTSIDE.
+ *   NONE       any answer that is not named here: it gets no reason
+ *
+ * What the other reasons say of the area and the call is true, none of the
+ * others is true of them, and it is enough by itself for the answer that is
+ * named with it.
+ *
+ * A start-split answered DONE or NAK:
+ *
+ *   HELD       buffer `value` is pending or ready with this key: DONE, a
+ *              repeat
+ *   REUSED     the lane is below its limit, and buffer `value` is old with
+ *              this key: DONE, stored there
+ *   TOOK_FREE  the lane is below its limit, no buffer has this key, and buffer
+ *              `value` is the lowest-numbered empty or old one: DONE, stored
+ *              there
+ *   LIMIT      the lane holds all buffers but one pending or ready, and none
+ *              of them has this key: NAK.  It is named before NO_ROOM.
+ *   NO_ROOM    the lane is below its limit, and every buffer is pending or
+ *              ready under another key: NAK.  With two buffers each lane is
+ *              at its limit then, and the reason is LIMIT.
+ *
+ * A poll answered DATA:
+ *
+ *   CHANGES    changes[p - 1] has the change bits GRIMHOLDI_CHANGE_.. that
+ *              stand at port p, each of which makes bit p of the byte one
+ *
+ * A control request answered STALL:
+ *
+ *   WRONG      `value` is the first thing that is wrong, GRIMHOLDI_WRONG_..,
+ *              in the order of their numbers
+ *
+ * `value` and `changes` are 0 where nothing is said of them.  No two reasons
+ * have the same numbers.
+ */
+
+#define GRIMHOLDI_WHY_NONE          0
+#define GRIMHOLDI_WHY_NUMBER        1
+#define GRIMHOLDI_WHY_HELD          2
+#define GRIMHOLDI_WHY_REUSED        3
+#define GRIMHOLDI_WHY_TOOK_FREE     4
+#define GRIMHOLDI_WHY_LIMIT         5
+#define GRIMHOLDI_WHY_NO_ROOM       6
+#define GRIMHOLDI_WHY_CHANGES       7
+#define GRIMHOLDI_WHY_WRONG         8
+
+#define GRIMHOLDI_WRONG_TYPE_OR_CODE  0 /* bmRequestType and bRequest */
+#define GRIMHOLDI_WRONG_UNCONFIGURED  1 /* not served by such a hub */
+#define GRIMHOLDI_WRONG_VALUE         2 /* wValue */
+#define GRIMHOLDI_WRONG_INDEX         3 /* wIndex */
+#define GRIMHOLDI_WRONG_LENGTH        4 /* wLength */
+
+typedef struct {
+    uint8_t kind;                         /* GRIMHOLDI_WHY_.. */
+    uint8_t value;                        /* number, buffer or wrong thing */
+    uint8_t changes[GRIMHOLDI_PORTS_MAX]; /* change bits, port 1 first */
+} grimholdi_reason;
+
+/*
  * The length of the area of a hub with that many ports and buffers, or 0 where
  * a number is outside the rules.
  */
@@ -317,6 +388,11 @@ grimholdi_answer grimholdi_control(uint8_t *area, size_t area_len,
                                    const uint8_t *setup, size_t setup_len,
                                    uint8_t *reply, size_t reply_len);
 
+/* Its reason: WRONG, NUMBER or NONE. */
+grimholdi_reason grimholdi_why_control(const uint8_t *area, size_t area_len,
+                                       uint32_t lane, const uint8_t *setup,
+                                       size_t setup_len, size_t reply_len);
+
 /*
  * The status change bitmap, the same for both lanes.
  *
@@ -331,6 +407,10 @@ grimholdi_answer grimholdi_control(uint8_t *area, size_t area_len,
 grimholdi_answer grimholdi_poll(uint8_t *area, size_t area_len,
                                 uint32_t lane,
                                 uint8_t *reply, size_t reply_len);
+
+/* Its reason: CHANGES, NUMBER or NONE. */
+grimholdi_reason grimholdi_why_poll(const uint8_t *area, size_t area_len,
+                                    uint32_t lane, size_t reply_len);
 
 /*
  * Offers a transaction to the translator.
@@ -364,6 +444,15 @@ grimholdi_answer grimholdi_start_split(uint8_t *area, size_t area_len,
                                        const uint8_t *payload,
                                        size_t payload_len);
 
+/* Its reason: HELD, REUSED, TOOK_FREE, LIMIT, NO_ROOM or NUMBER. */
+grimholdi_reason grimholdi_why_start_split(const uint8_t *area,
+                                           size_t area_len, uint32_t lane,
+                                           uint32_t pid, uint32_t transfer,
+                                           uint32_t low_speed, uint32_t toggle,
+                                           uint32_t address, uint32_t endpoint,
+                                           const uint8_t *payload,
+                                           size_t payload_len);
+
 /*
  * Asks for the result of the transaction with this key.
  *
@@ -390,6 +479,14 @@ grimholdi_answer grimholdi_complete_split(uint8_t *area, size_t area_len,
                                           uint32_t direction,
                                           uint8_t *reply, size_t reply_len);
 
+/* Its reason: NUMBER or NONE. */
+grimholdi_reason grimholdi_why_complete_split(const uint8_t *area,
+                                              size_t area_len, uint32_t lane,
+                                              uint32_t address,
+                                              uint32_t endpoint,
+                                              uint32_t direction,
+                                              size_t reply_len);
+
 /*
  * Takes the next transaction to run on the low side.
  *
@@ -404,6 +501,10 @@ grimholdi_answer grimholdi_complete_split(uint8_t *area, size_t area_len,
  */
 grimholdi_answer grimholdi_launch(uint8_t *area, size_t area_len,
                                   uint8_t *reply, size_t reply_len);
+
+/* Its reason: NUMBER or NONE. */
+grimholdi_reason grimholdi_why_launch(const uint8_t *area, size_t area_len,
+                                      size_t reply_len);
 
 /*
  * Gives the running transaction its result.
@@ -424,6 +525,11 @@ grimholdi_answer grimholdi_launch(uint8_t *area, size_t area_len,
 grimholdi_answer grimholdi_deliver(uint8_t *area, size_t area_len,
                                    uint32_t result,
                                    const uint8_t *payload, size_t payload_len);
+
+/* Its reason: NUMBER or NONE. */
+grimholdi_reason grimholdi_why_deliver(const uint8_t *area, size_t area_len,
+                                       uint32_t result, const uint8_t *payload,
+                                       size_t payload_len);
 
 /*
  * A finished event on the lines of one port.
@@ -454,6 +560,10 @@ grimholdi_answer grimholdi_deliver(uint8_t *area, size_t area_len,
 grimholdi_answer grimholdi_line_event(uint8_t *area, size_t area_len,
                                       uint32_t event, uint32_t port);
 
+/* Its reason: NUMBER or NONE. */
+grimholdi_reason grimholdi_why_line_event(const uint8_t *area, size_t area_len,
+                                          uint32_t event, uint32_t port);
+
 /*
  * One millisecond has passed on all ports.  The 15th tick in Resetting gives
  * Enabled and sets C_PORT_RESET; the 22nd in Resuming gives Enabled and sets
@@ -464,6 +574,9 @@ grimholdi_answer grimholdi_line_event(uint8_t *area, size_t area_len,
  */
 grimholdi_answer grimholdi_tick(uint8_t *area, size_t area_len);
 
+/* Its reason: NUMBER, where the area is refused, or NONE. */
+grimholdi_reason grimholdi_why_tick(const uint8_t *area, size_t area_len);
+
 /*
  * A reset on the upstream bus, for both lanes.  The area holds the new hub
  * again, with the numbers given to grimholdi_new.
@@ -472,6 +585,9 @@ grimholdi_answer grimholdi_tick(uint8_t *area, size_t area_len);
  * DONE     otherwise
  */
 grimholdi_answer grimholdi_bus_reset(uint8_t *area, size_t area_len);
+
+/* Its reason: NUMBER, where the area is refused, or NONE. */
+grimholdi_reason grimholdi_why_bus_reset(const uint8_t *area, size_t area_len);
 
 #ifdef __cplusplus
 }

@@ -20,6 +20,9 @@ static uint8_t *area;
 static size_t area_len;
 static uint8_t *reply;
 
+static uint8_t saved_area[GRIMHOLDI_AREA_LENGTH_MAX];
+static uint8_t saved_reply[GRIMHOLDI_REPLY_LENGTH];
+
 static inline void free_hub(void)
 {
     free(area);
@@ -49,12 +52,32 @@ static inline void new_hub(uint32_t ports, uint32_t buffers)
           == GRIMHOLDI_DONE);
 }
 
-static inline grimholdi_answer request_from(uint32_t lane, uint8_t type,
-                                            uint8_t code, uint16_t value,
-                                            uint16_t index, uint16_t length)
+static inline void save(void)
 {
-    uint8_t setup[GRIMHOLDI_SETUP_LENGTH];
+    memcpy(saved_area, area, area_len);
+    memcpy(saved_reply, reply, sizeof saved_reply);
+}
 
+static inline void restore(void)
+{
+    memcpy(area, saved_area, area_len);
+    memcpy(reply, saved_reply, sizeof saved_reply);
+}
+
+static inline int area_is_saved(void)
+{
+    return memcmp(saved_area, area, area_len) == 0;
+}
+
+static inline int reply_is_saved(void)
+{
+    return memcmp(saved_reply, reply, sizeof saved_reply) == 0;
+}
+
+static inline void put_setup(uint8_t setup[GRIMHOLDI_SETUP_LENGTH],
+                             uint8_t type, uint8_t code, uint16_t value,
+                             uint16_t index, uint16_t length)
+{
     setup[0] = type;
     setup[1] = code;
     setup[2] = (uint8_t)value;
@@ -63,6 +86,15 @@ static inline grimholdi_answer request_from(uint32_t lane, uint8_t type,
     setup[5] = (uint8_t)(index >> 8);
     setup[6] = (uint8_t)length;
     setup[7] = (uint8_t)(length >> 8);
+}
+
+static inline grimholdi_answer request_from(uint32_t lane, uint8_t type,
+                                            uint8_t code, uint16_t value,
+                                            uint16_t index, uint16_t length)
+{
+    uint8_t setup[GRIMHOLDI_SETUP_LENGTH];
+
+    put_setup(setup, type, code, value, index, length);
     return grimholdi_control(area, area_len, lane, setup, sizeof setup,
                              reply, GRIMHOLDI_REPLY_LENGTH);
 }
@@ -84,6 +116,12 @@ static inline uint8_t set_configuration_from(uint32_t lane, uint16_t value)
 static inline uint8_t set_configuration(uint16_t value)
 {
     return set_configuration_from(0, value);
+}
+
+static inline void configured_hub(uint32_t ports, uint32_t buffers)
+{
+    new_hub(ports, buffers);
+    CHECK(set_configuration(1) == GRIMHOLDI_DONE);
 }
 
 static inline uint8_t set_feature_from(uint32_t lane, uint16_t feature,
@@ -225,6 +263,47 @@ static inline int gives(grimholdi_answer answer, const char *bytes,
            && memcmp(reply, bytes, length) == 0;
 }
 
+/* IN transactions of (address, 1). */
+
+/* The launched transaction is the one of this lane and address. */
+static inline int launches(uint32_t lane, uint32_t address)
+{
+    grimholdi_answer answer = launch();
+
+    return answer.number == GRIMHOLDI_DATA && answer.lane == lane
+           && answer.address == address;
+}
+
+static inline uint8_t deliver_text(const char *text)
+{
+    return deliver(GRIMHOLDI_RESULT_DATA0, (const uint8_t *)text,
+                   strlen(text));
+}
+
+/* The result of the transaction is data with these bytes. */
+static inline int has_text(uint32_t lane, uint32_t address,
+                           const char *text)
+{
+    return gives(complete_from(lane, address, 1, GRIMHOLDI_DIRECTION_IN), text,
+                 (uint8_t)strlen(text));
+}
+
+/* A ready buffer with these bytes; nothing else may be pending. */
+static inline void make_ready(uint32_t lane, uint32_t address,
+                              const char *text)
+{
+    CHECK(start_in_from(lane, address, 1) == GRIMHOLDI_DONE);
+    CHECK(launches(lane, address));
+    CHECK(deliver_text(text) == GRIMHOLDI_DONE);
+}
+
+static inline void make_old(uint32_t lane, uint32_t address,
+                            const char *text)
+{
+    make_ready(lane, address, text);
+    CHECK(has_text(lane, address, text));
+}
+
 /* GetPortStatus gives these four bytes. */
 static inline int status_is_from(uint32_t lane, uint16_t port,
                                  const char *bytes)
@@ -247,12 +326,86 @@ static inline uint16_t port_changes(uint16_t port)
     return (uint16_t)(reply[2] | reply[3] << 8);
 }
 
+/* The area's own bytes, docs/AREA.md. */
+
+static inline uint8_t *port_bytes(uint32_t port)
+{
+    return area + 8 + 4 * (port - 1);
+}
+
+static inline uint8_t *buffer_bytes(uint32_t number)
+{
+    return area + 8 + 4 * area[0] + 72 * number;
+}
+
+/* A buffer's bytes: bulk IN from an address of its own, without payload. */
+static inline void put_buffer(uint32_t number, uint8_t status, uint8_t lane)
+{
+    uint8_t *buffer = buffer_bytes(number);
+
+    memset(buffer, 0, 72);
+    if (status == 0)
+        return;
+    buffer[0] = status;
+    buffer[1] = GRIMHOLDI_PID_IN;
+    buffer[2] = GRIMHOLDI_TRANSFER_BULK;
+    buffer[3] = (uint8_t)(lane << 2);
+    buffer[4] = (uint8_t)(10 + number);
+    buffer[6] = status == 1 ? (uint8_t)number : GRIMHOLDI_RESULT_NAK;
+}
+
+/* One of 7 to the power of B choices of status and lane for each buffer. */
+static inline void put_buffers(uint32_t choice)
+{
+    static const uint8_t kinds[][2] = { /* status, lane */
+        {0, 0}, {1, 0}, {2, 0}, {3, 0}, {1, 1}, {2, 1}, {3, 1}
+    };
+    uint32_t i;
+
+    for (i = 0; i < area[1]; i++, choice /= 7)
+        put_buffer(i, kinds[choice % 7][0], kinds[choice % 7][1]);
+}
+
+/* Pending or ready. */
+static inline int is_held(uint32_t number)
+{
+    uint8_t status = buffer_bytes(number)[0];
+
+    return status == 1 || status == 2;
+}
+
+static inline int is_of_lane(uint32_t number, uint32_t lane)
+{
+    return buffer_bytes(number)[3] >> 2 == (uint8_t)lane;
+}
+
+/* How many buffers the lane holds. */
+static inline uint32_t held_by(uint32_t lane)
+{
+    uint32_t held = 0;
+    uint32_t i;
+
+    for (i = 0; i < area[1]; i++)
+        held += is_held(i) && is_of_lane(i, lane);
+    return held;
+}
+
 /* The fields that only a launch gives are 0. */
 static inline int launches_nothing(grimholdi_answer answer)
 {
     return answer.transfer == 0 && answer.lane == 0 && answer.address == 0
            && answer.endpoint == 0 && answer.direction == 0
            && answer.low_speed == 0 && answer.toggle == 0;
+}
+
+/* The reason has this kind and value, and no change bits. */
+static inline int is_reason(grimholdi_reason reason, uint8_t kind,
+                            uint8_t value)
+{
+    static const uint8_t no_changes[GRIMHOLDI_PORTS_MAX] = {0};
+
+    return reason.kind == kind && reason.value == value
+           && memcmp(reason.changes, no_changes, sizeof no_changes) == 0;
 }
 
 /* All fields but the number are 0. */

@@ -9,12 +9,47 @@ enum {
     LENGTH = 232
 };
 
-/* Whether each call refuses the area with OUTSIDE and keeps its bytes. */
+static const uint8_t setup[8] = {GRIMHOLDI_TYPE_GET_CONFIGURATION,
+                                 GRIMHOLDI_REQUEST_GET_CONFIGURATION,
+                                 0, 0, 0, 0, 1, 0};
+
+/* Whether the reason of each call is OUTSIDE. */
+static int all_explain(const uint8_t *bytes, size_t length)
+{
+    grimholdi_reason reasons[13];
+    grimholdi_reason *next = reasons;
+    uint32_t lane;
+    int i;
+
+    for (lane = 0; lane <= GRIMHOLDI_LANE_MAX; lane++) {
+        *next++ = grimholdi_why_control(bytes, length, lane, setup, 8, 64);
+        *next++ = grimholdi_why_poll(bytes, length, lane, 64);
+        *next++ = grimholdi_why_start_split(bytes, length, lane,
+                                            GRIMHOLDI_PID_IN,
+                                            GRIMHOLDI_TRANSFER_BULK, 0, 0,
+                                            9, 1, NULL, 0);
+        *next++ = grimholdi_why_complete_split(bytes, length, lane, 9, 1,
+                                               1, 64);
+    }
+    *next++ = grimholdi_why_launch(bytes, length, 0);
+    *next++ = grimholdi_why_deliver(bytes, length, GRIMHOLDI_RESULT_NAK,
+                                    NULL, 0);
+    *next++ = grimholdi_why_line_event(bytes, length,
+                                       GRIMHOLDI_EVENT_OVER_CURRENT_ON, 1);
+    *next++ = grimholdi_why_tick(bytes, length);
+    *next = grimholdi_why_bus_reset(bytes, length);
+    for (i = 0; i < 13; i++)
+        if (!is_reason(reasons[i], GRIMHOLDI_WHY_NUMBER, GRIMHOLDI_OUTSIDE))
+            return 0;
+    return 1;
+}
+
+/*
+ * Whether each call refuses the area with OUTSIDE, which is its reason too,
+ * and keeps its bytes.
+ */
 static int all_refuse(uint8_t *bytes, size_t length)
 {
-    static const uint8_t setup[8] = {GRIMHOLDI_TYPE_GET_CONFIGURATION,
-                                     GRIMHOLDI_REQUEST_GET_CONFIGURATION,
-                                     0, 0, 0, 0, 1, 0};
     uint8_t kept[GRIMHOLDI_AREA_LENGTH_MAX + 1];
     grimholdi_answer answers[13];
     grimholdi_answer *next = answers;
@@ -41,15 +76,19 @@ static int all_refuse(uint8_t *bytes, size_t length)
     for (i = 0; i < 13; i++)
         if (answers[i].number != GRIMHOLDI_OUTSIDE || !is_bare(answers[i]))
             return 0;
-    return length == 0 || memcmp(kept, bytes, length) == 0;
+    return all_explain(bytes, length)
+           && (length == 0 || memcmp(kept, bytes, length) == 0);
 }
 
-/* Whether the area is taken: GetConfiguration is served. */
+/* Whether the area is taken: GetConfiguration is served, for no reason. */
 static int is_taken(void)
 {
     return request(GRIMHOLDI_TYPE_GET_CONFIGURATION,
                    GRIMHOLDI_REQUEST_GET_CONFIGURATION, 0, 0, 1).number
-           == GRIMHOLDI_DATA;
+           == GRIMHOLDI_DATA
+           && is_reason(grimholdi_why_control(area, area_len, 0, setup, 8,
+                                              64),
+                        GRIMHOLDI_WHY_NONE, 0);
 }
 
 static int refused_with(size_t place, uint8_t value)
@@ -405,51 +444,22 @@ static void keys_by_lane(void)
     CHECK(refused_with(BUFFER_2 + 3, 0));
 }
 
-/* A buffer's bytes: bulk IN from an address of its own, without payload. */
-static void put_buffer(uint32_t number, uint8_t status, uint8_t lane)
-{
-    uint8_t *buffer = area + 8 + 4 + 72 * number; /* behind one port */
-
-    memset(buffer, 0, 72);
-    if (status == 0)
-        return;
-    buffer[0] = status;
-    buffer[1] = GRIMHOLDI_PID_IN;
-    buffer[2] = GRIMHOLDI_TRANSFER_BULK;
-    buffer[3] = (uint8_t)(lane << 2);
-    buffer[4] = (uint8_t)(10 + number);
-    buffer[6] = status == 1 ? (uint8_t)number : GRIMHOLDI_RESULT_NAK;
-}
-
 /*
  * Every choice of status and lane for each buffer: refused exactly if one
  * lane holds all of them pending or ready.
  */
 static void crowded_areas(uint32_t buffers)
 {
-    static const uint8_t kinds[][2] = { /* status, lane */
-        {0, 0}, {1, 0}, {2, 0}, {3, 0}, {1, 1}, {2, 1}, {3, 1}
-    };
     uint32_t choices = 1;
     uint32_t choice;
     uint32_t i;
 
-    new_hub(1, buffers);
-    CHECK(set_configuration(1) == GRIMHOLDI_DONE);
+    configured_hub(1, buffers);
     for (i = 0; i < buffers; i++)
         choices *= 7;
     for (choice = 0; choice < choices; choice++) {
-        uint32_t held[2] = {0, 0};
-        uint32_t rest = choice;
-
-        for (i = 0; i < buffers; i++, rest /= 7) {
-            const uint8_t *kind = kinds[rest % 7];
-
-            put_buffer(i, kind[0], kind[1]);
-            if (kind[0] == 1 || kind[0] == 2)
-                held[kind[1]]++;
-        }
-        CHECK(held[0] == buffers || held[1] == buffers
+        put_buffers(choice);
+        CHECK(held_by(0) == buffers || held_by(1) == buffers
               ? all_refuse(area, area_len) : is_taken());
     }
 }

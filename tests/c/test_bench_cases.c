@@ -4,15 +4,9 @@
 
 enum { PORT = 2 };
 
-static void configured_hub(void)
-{
-    new_hub(4, 3);
-    CHECK(set_configuration(1) == GRIMHOLDI_DONE);
-}
-
 static void powered_port(void)
 {
-    configured_hub();
+    configured_hub(4, 3);
     CHECK(set_feature(GRIMHOLDI_PORT_POWER, PORT) == GRIMHOLDI_DONE);
 }
 
@@ -91,7 +85,7 @@ static void translator_cases(void)
     grimholdi_answer answer;
     int i;
 
-    configured_hub();
+    configured_hub(4, 3);
     CHECK(start_in(5, 1) == GRIMHOLDI_DONE);                          /* P11 */
     CHECK(start_in(6, 1) == GRIMHOLDI_DONE);
     CHECK(start_in(7, 1) == GRIMHOLDI_NAK);

@@ -18,6 +18,8 @@ int main()
     CHECK(offsetof(grimholdi_answer, transfer) == 3);
     CHECK(offsetof(grimholdi_answer, lane) == 4);
     CHECK(offsetof(grimholdi_answer, address) == 5);
+    CHECK(sizeof(grimholdi_reason) == 9);
+    CHECK(offsetof(grimholdi_reason, changes) == 2);
     CHECK(length == sizeof area);
     CHECK(grimholdi_new(area, length, 7, 4, 0, 0, 0).number == GRIMHOLDI_DONE);
     CHECK(grimholdi_control(area, length, GRIMHOLDI_LANE_MAX, configure,
@@ -29,6 +31,12 @@ int main()
                                 GRIMHOLDI_PID_IN, GRIMHOLDI_TRANSFER_BULK,
                                 0, 0, 1, 1, nullptr, 0).number
           == GRIMHOLDI_DONE);
+
+    const grimholdi_reason reason = grimholdi_why_start_split(
+        area, length, GRIMHOLDI_LANE_MAX, GRIMHOLDI_PID_IN,
+        GRIMHOLDI_TRANSFER_BULK, 0, 0, 1, 1, nullptr, 0);
+
+    CHECK(reason.kind == GRIMHOLDI_WHY_HELD && reason.value == 0);
     CHECK(grimholdi_launch(area, length, reply, sizeof reply).lane
           == GRIMHOLDI_LANE_MAX);
     CHECK(grimholdi_deliver(area, length, GRIMHOLDI_RESULT_DATA0, reply,

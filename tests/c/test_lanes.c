@@ -4,24 +4,6 @@
 
 enum { ENDPOINT = 1 };
 
-static uint8_t saved_area[GRIMHOLDI_AREA_LENGTH_MAX];
-
-static void configured_hub(uint32_t buffers)
-{
-    new_hub(4, buffers);
-    CHECK(set_configuration(1) == GRIMHOLDI_DONE);
-}
-
-static void save(void)
-{
-    memcpy(saved_area, area, area_len);
-}
-
-static int is_as_saved(void)
-{
-    return memcmp(saved_area, area, area_len) == 0;
-}
-
 /* IN transactions of (address, 1). */
 
 static uint8_t start(uint32_t lane, uint32_t address)
@@ -40,46 +22,11 @@ static uint8_t clear(uint32_t lane, uint16_t address)
                                 GRIMHOLDI_DIRECTION_IN);
 }
 
-/* The launched transaction is the one of this lane and address. */
-static int launches(uint32_t lane, uint32_t address)
-{
-    grimholdi_answer answer = launch();
-
-    return answer.number == GRIMHOLDI_DATA && answer.lane == lane
-           && answer.address == address;
-}
-
-static uint8_t deliver_text(const char *text)
-{
-    return deliver(GRIMHOLDI_RESULT_DATA0, (const uint8_t *)text,
-                   strlen(text));
-}
-
-/* The result of the transaction is data with these bytes. */
-static int has_text(uint32_t lane, uint32_t address, const char *text)
-{
-    return gives(result_of(lane, address), text, (uint8_t)strlen(text));
-}
-
-/* A ready buffer with these bytes; nothing else may be pending. */
-static void make_ready(uint32_t lane, uint32_t address, const char *text)
-{
-    CHECK(start(lane, address) == GRIMHOLDI_DONE);
-    CHECK(launches(lane, address));
-    CHECK(deliver_text(text) == GRIMHOLDI_DONE);
-}
-
-static void make_old(uint32_t lane, uint32_t address, const char *text)
-{
-    make_ready(lane, address, text);
-    CHECK(has_text(lane, address, text));
-}
-
 /* Keys. */
 
 static void each_lane_gets_its_own_bytes(void)
 {
-    configured_hub(3);
+    configured_hub(4, 3);
     CHECK(start(0, 5) == GRIMHOLDI_DONE);
     CHECK(start(1, 5) == GRIMHOLDI_DONE);
     CHECK(launches(0, 5));
@@ -95,7 +42,7 @@ static void each_lane_gets_its_own_bytes(void)
 
 static void each_lane_sends_its_own_bytes(void)
 {
-    configured_hub(3);
+    configured_hub(4, 3);
     CHECK(start_out_from(1, 5, 2, (const uint8_t *)"one", 3)
           == GRIMHOLDI_DONE);
     CHECK(start_out_from(0, 5, 2, (const uint8_t *)"zero", 4)
@@ -115,7 +62,7 @@ static void data_stays_in_its_lane(uint32_t lane)
 {
     uint32_t other = 1 - lane;
 
-    configured_hub(3);
+    configured_hub(4, 3);
     CHECK(start(lane, 5) == GRIMHOLDI_DONE);
     CHECK(result_of(other, 5).number == GRIMHOLDI_STALL);
     CHECK(launches(lane, 5));
@@ -124,7 +71,7 @@ static void data_stays_in_its_lane(uint32_t lane)
     memset(reply, 0xEE, GRIMHOLDI_REPLY_LENGTH);
     save();
     CHECK(result_of(other, 5).number == GRIMHOLDI_STALL);
-    CHECK(is_as_saved() && reply[0] == 0xEE);
+    CHECK(area_is_saved() && reply[0] == 0xEE);
     CHECK(has_text(lane, 5, "mine"));
     CHECK(result_of(other, 5).number == GRIMHOLDI_STALL);
 }
@@ -134,7 +81,7 @@ static void other_lane_takes_an_old_one(uint32_t lane)
 {
     uint32_t other = 1 - lane;
 
-    configured_hub(3);
+    configured_hub(4, 3);
     make_old(lane, 5, "mine");
     CHECK(start(other, 5) == GRIMHOLDI_DONE);
     CHECK(result_of(lane, 5).number == GRIMHOLDI_STALL);
@@ -153,31 +100,31 @@ static void limit_leaves_one(uint32_t buffers, uint32_t lane)
     uint32_t other = 1 - lane;
     uint32_t i;
 
-    configured_hub(buffers);
+    configured_hub(4, buffers);
     for (i = 1; i < buffers; i++)
         CHECK(start(lane, 10 + i) == GRIMHOLDI_DONE);
     save();
     CHECK(start(lane, 20) == GRIMHOLDI_NAK);
-    CHECK(is_as_saved());
+    CHECK(area_is_saved());
     CHECK(start(other, 20) == GRIMHOLDI_DONE);
     CHECK(result_of(other, 20).number == GRIMHOLDI_NYET);
     CHECK(result_of(lane, 20).number == GRIMHOLDI_STALL);
     save();
     CHECK(start(lane, 21) == GRIMHOLDI_NAK);
     CHECK(start(other, 21) == GRIMHOLDI_NAK);
-    CHECK(is_as_saved());
+    CHECK(area_is_saved());
 }
 
 /* Lane 1 is below its limit, but lane 0 holds the rest. */
 static void other_lane_holds_the_rest(void)
 {
-    configured_hub(3);
+    configured_hub(4, 3);
     CHECK(start(0, 5) == GRIMHOLDI_DONE);
     CHECK(start(0, 6) == GRIMHOLDI_DONE);
     CHECK(start(1, 7) == GRIMHOLDI_DONE);
     save();
     CHECK(start(1, 8) == GRIMHOLDI_NAK);
-    CHECK(is_as_saved());
+    CHECK(area_is_saved());
 
     /* Ready is held as pending is; old is free. */
     CHECK(launches(0, 5));
@@ -192,7 +139,7 @@ static void other_lane_holds_the_rest(void)
 /* Two of four each: the limit is not the share of one half. */
 static void lanes_share_four(void)
 {
-    configured_hub(4);
+    configured_hub(4, 4);
     CHECK(start(0, 5) == GRIMHOLDI_DONE);
     CHECK(start(1, 5) == GRIMHOLDI_DONE);
     CHECK(start(0, 6) == GRIMHOLDI_DONE);
@@ -208,14 +155,14 @@ static void lanes_share_four(void)
 /* One ready, one pending, a third buffer empty. */
 static void repeat_at_the_limit(uint32_t lane)
 {
-    configured_hub(3);
+    configured_hub(4, 3);
     make_ready(lane, 5, "five");
     CHECK(start(lane, 6) == GRIMHOLDI_DONE);
     save();
     CHECK(start(lane, 5) == GRIMHOLDI_DONE);
     CHECK(start(lane, 6) == GRIMHOLDI_DONE);
     CHECK(start(lane, 7) == GRIMHOLDI_NAK);
-    CHECK(is_as_saved());
+    CHECK(area_is_saved());
     CHECK(has_text(lane, 5, "five"));
     CHECK(result_of(lane, 6).number == GRIMHOLDI_NYET);
 }
@@ -225,7 +172,7 @@ static void own_old_one_at_the_limit(uint32_t lane)
 {
     uint32_t other = 1 - lane;
 
-    configured_hub(3);
+    configured_hub(4, 3);
     make_ready(lane, 5, "five");
     make_ready(other, 6, "six");
     make_old(lane, 7, "seven");
@@ -235,7 +182,7 @@ static void own_old_one_at_the_limit(uint32_t lane)
 
     save();
     CHECK(start(lane, 7) == GRIMHOLDI_NAK);
-    CHECK(is_as_saved());
+    CHECK(area_is_saved());
     CHECK(has_text(lane, 7, "seven"));
 
     /* Below the limit it is reused, though buffer 0 is old too. */
@@ -248,7 +195,7 @@ static void own_old_one_at_the_limit(uint32_t lane)
 /* Two old buffers, and still two may be held. */
 static void old_ones_do_not_count(uint32_t lane)
 {
-    configured_hub(3);
+    configured_hub(4, 3);
     make_ready(lane, 5, "five");
     make_ready(lane, 6, "six");
     CHECK(start(lane, 7) == GRIMHOLDI_NAK);
@@ -265,7 +212,7 @@ static void old_ones_do_not_count(uint32_t lane)
 /* Buffers 0 to 2 hold the third, first and second accepted. */
 static void order_of_acceptance_over_both(void)
 {
-    configured_hub(3);
+    configured_hub(4, 3);
     CHECK(start(1, 5) == GRIMHOLDI_DONE);
     CHECK(start(0, 5) == GRIMHOLDI_DONE);
     CHECK(start(1, 6) == GRIMHOLDI_DONE);
@@ -288,7 +235,7 @@ static void lane_is_in_launches_alone(void)
 {
     grimholdi_answer answer;
 
-    configured_hub(3);
+    configured_hub(4, 3);
     answer = request_from(1, 0x80, 0x08, 0, 0, 1);
     CHECK(gives(answer, "\x01", 1) && answer.pid == 0
           && launches_nothing(answer));
@@ -339,7 +286,7 @@ static void reset_abandons_its_own(uint32_t lane)
 {
     uint32_t other = 1 - lane;
 
-    configured_hub(3);
+    configured_hub(4, 3);
     CHECK(start(lane, 5) == GRIMHOLDI_DONE);
     CHECK(start(other, 5) == GRIMHOLDI_DONE);
     CHECK(start(lane, 6) == GRIMHOLDI_DONE);
@@ -367,7 +314,7 @@ static void reset_abandons_its_own(uint32_t lane)
 /* A result that would not suit is thrown away as well. */
 static void reset_throws_any_result_away(void)
 {
-    configured_hub(3);
+    configured_hub(4, 3);
     CHECK(start(1, 5) == GRIMHOLDI_DONE);
     CHECK(launches(1, 5));
     CHECK(reset_tt_from(1) == GRIMHOLDI_DONE);
@@ -383,7 +330,7 @@ static void reset_leaves_the_other(uint32_t lane)
 {
     uint32_t other = 1 - lane;
 
-    configured_hub(3);
+    configured_hub(4, 3);
     CHECK(start(other, 5) == GRIMHOLDI_DONE);
     CHECK(start(lane, 5) == GRIMHOLDI_DONE);
     CHECK(start(lane, 6) == GRIMHOLDI_DONE);
@@ -406,7 +353,7 @@ static void abandoned_stays_abandoned(uint32_t lane)
 {
     uint32_t other = 1 - lane;
 
-    configured_hub(3);
+    configured_hub(4, 3);
     CHECK(start(lane, 5) == GRIMHOLDI_DONE);
     CHECK(launches(lane, 5));
     CHECK(clear(lane, 5) == GRIMHOLDI_DONE);
@@ -429,7 +376,7 @@ static void reset_empties_old_ones(uint32_t lane)
 {
     uint32_t other = 1 - lane;
 
-    configured_hub(4);
+    configured_hub(4, 4);
     make_ready(lane, 5, "own ready");
     make_ready(other, 5, "other ready");
     make_ready(lane, 6, "own old");
@@ -452,7 +399,7 @@ static void reset_in_the_area(uint32_t lane, uint32_t running)
 {
     uint32_t i;
 
-    configured_hub(4);
+    configured_hub(4, 4);
     for (i = 0; i < 4; i++)
         CHECK(start(i % 2 == 0 ? lane : 1 - lane, 5 + i) == GRIMHOLDI_DONE);
     for (i = 0; i < running; i++) {
@@ -469,7 +416,7 @@ static void reset_in_the_area(uint32_t lane, uint32_t running)
     memset(saved_area + 24, 0, 72);
     memset(saved_area + 24 + 2 * 72, 0, 72);
     CHECK(reset_tt_from(lane) == GRIMHOLDI_DONE);
-    CHECK(is_as_saved());
+    CHECK(area_is_saved());
 }
 
 /* ClearTTBuffer, SetConfiguration and bus reset. */
@@ -478,15 +425,15 @@ static void clear_acts_on_its_own_lane(uint32_t lane)
 {
     uint32_t other = 1 - lane;
 
-    configured_hub(3);
+    configured_hub(4, 3);
     CHECK(start(other, 5) == GRIMHOLDI_DONE);
     CHECK(launches(other, 5));
     save();
     CHECK(clear(lane, 5) == GRIMHOLDI_DONE);
-    CHECK(is_as_saved());
+    CHECK(area_is_saved());
     CHECK(start(lane, 5) == GRIMHOLDI_DONE);
     CHECK(clear(lane, 5) == GRIMHOLDI_DONE);
-    CHECK(is_as_saved());
+    CHECK(area_is_saved());
     CHECK(result_of(lane, 5).number == GRIMHOLDI_STALL);
     CHECK(deliver_text("on time") == GRIMHOLDI_DONE);
     CHECK(has_text(other, 5, "on time"));
@@ -504,7 +451,7 @@ static void clear_acts_on_its_own_lane(uint32_t lane)
 /* Pending, ready and old in either lane, and one running. */
 static void filled_hub(uint32_t running_lane)
 {
-    configured_hub(4);
+    configured_hub(4, 4);
     make_ready(1 - running_lane, 5, "ready");
     make_old(running_lane, 6, "old");
     CHECK(start(running_lane, 6) == GRIMHOLDI_DONE);
@@ -517,12 +464,12 @@ static void configuration_empties_both(uint32_t lane, uint16_t value)
     uint32_t running_lane;
 
     for (running_lane = 0; running_lane < 2; running_lane++) {
-        configured_hub(4);
+        configured_hub(4, 4);
         CHECK(set_configuration_from(lane, value) == GRIMHOLDI_DONE);
         save();
         filled_hub(running_lane);
         CHECK(set_configuration_from(lane, value) == GRIMHOLDI_DONE);
-        CHECK(is_as_saved());
+        CHECK(area_is_saved());
         CHECK(deliver_text("late")
               == (value == 0 ? GRIMHOLDI_SILENT : GRIMHOLDI_NOT_NOW));
     }
@@ -537,7 +484,7 @@ static void bus_reset_empties_both(void)
         save();
         filled_hub(running_lane);
         CHECK(bus_reset() == GRIMHOLDI_DONE);
-        CHECK(is_as_saved());
+        CHECK(area_is_saved());
     }
 }
 

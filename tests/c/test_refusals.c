@@ -2,32 +2,17 @@
 
 #include "bench_hub.h"
 
-static uint8_t saved_area[GRIMHOLDI_AREA_LENGTH_MAX];
-static uint8_t saved_reply[GRIMHOLDI_REPLY_LENGTH];
 static const uint8_t *none = NULL;
-
-static void save(void)
-{
-    memcpy(saved_area, area, area_len);
-    memcpy(saved_reply, reply, sizeof saved_reply);
-}
 
 /* The answer is bare; area and reply space are as saved. */
 static int leaves_all(grimholdi_answer answer, uint8_t number)
 {
     return answer.number == number && is_bare(answer)
-           && memcmp(saved_area, area, area_len) == 0
-           && memcmp(saved_reply, reply, sizeof saved_reply) == 0;
+           && area_is_saved() && reply_is_saved();
 }
 
 #define LEAVES_ALL(expected, call) \
     (save(), CHECK(leaves_all((call), expected)))
-
-static void configured_hub(void)
-{
-    new_hub(4, 3);
-    CHECK(set_configuration(1) == GRIMHOLDI_DONE);
-}
 
 /* Short forms with the arguments that the checks vary. */
 
@@ -132,7 +117,7 @@ static void control_refusals(void)
     };
     size_t i;
 
-    configured_hub();
+    configured_hub(4, 3);
     CHECK(start_in(5, 1) == GRIMHOLDI_DONE);
     for (i = 0; i < sizeof stalled / sizeof *stalled; i++)
         LEAVES_ALL(GRIMHOLDI_STALL,
@@ -160,7 +145,7 @@ static void poll_refusals(void)
     LEAVES_ALL(GRIMHOLDI_SILENT, poll());
     LEAVES_ALL(GRIMHOLDI_NO_SPACE, poll_in(0, 63));
     LEAVES_ALL(GRIMHOLDI_NO_SPACE, poll_in(0, 0));
-    configured_hub();
+    configured_hub(4, 3);
     LEAVES_ALL(GRIMHOLDI_NAK, poll());
     LEAVES_ALL(GRIMHOLDI_NO_SPACE, poll_in(0, 63));
 }
@@ -198,7 +183,7 @@ static void start_split_refusals(void)
     new_hub(4, 3);
     start_split_numbers();
     LEAVES_ALL(GRIMHOLDI_SILENT, start(9, 2, 0, 0, 5, 1, 0));
-    configured_hub();
+    configured_hub(4, 3);
     start_split_numbers();
     CHECK(start(1, 2, 0, 0, 127, 15, 64).number == GRIMHOLDI_DONE);
     CHECK(start(1, 0, 1, 1, 0, 0, 0).number == GRIMHOLDI_DONE);
@@ -214,7 +199,7 @@ static void complete_split_refusals(void)
     LEAVES_ALL(GRIMHOLDI_NO_SPACE, complete_in(5, 1, 1, 63));
     LEAVES_ALL(GRIMHOLDI_NO_SPACE, complete_in(5, 1, 1, 0));
     LEAVES_ALL(GRIMHOLDI_SILENT, complete_in(5, 1, 1, 64));
-    configured_hub();
+    configured_hub(4, 3);
     LEAVES_ALL(GRIMHOLDI_OUTSIDE, complete_in(128, 1, 1, 64));
     LEAVES_ALL(GRIMHOLDI_OUTSIDE, complete_in(FAR_NUMBER, 1, 1, 64));
     LEAVES_ALL(GRIMHOLDI_OUTSIDE, complete_in(5, 16, 1, 64));
@@ -233,7 +218,7 @@ static void launch_refusals(void)
     new_hub(4, 3);
     LEAVES_ALL(GRIMHOLDI_NO_SPACE, launch_into(63));
     LEAVES_ALL(GRIMHOLDI_SILENT, launch());
-    configured_hub();
+    configured_hub(4, 3);
     LEAVES_ALL(GRIMHOLDI_NAK, launch());
     CHECK(start_in(5, 1) == GRIMHOLDI_DONE);
     LEAVES_ALL(GRIMHOLDI_NO_SPACE, launch_into(0));
@@ -266,7 +251,7 @@ static void deliver_refusals(void)
     new_hub(4, 3);
     deliver_numbers();
     LEAVES_ALL(GRIMHOLDI_SILENT, result(10, 0));
-    configured_hub();
+    configured_hub(4, 3);
     deliver_numbers();
     LEAVES_ALL(GRIMHOLDI_NOT_NOW, result(10, 0));
 
@@ -282,7 +267,7 @@ static void deliver_refusals(void)
     LEAVES_ALL(GRIMHOLDI_NOT_NOW, result(11, 64));
     CHECK(result(14, 0).number == GRIMHOLDI_DONE);
 
-    configured_hub();
+    configured_hub(4, 3);
     CHECK(start(13, 0, 0, 0, 5, 0, 8).number == GRIMHOLDI_DONE);
     CHECK(launch().number == GRIMHOLDI_DATA);
     LEAVES_ALL(GRIMHOLDI_NOT_NOW, result(3, 0));
@@ -307,7 +292,7 @@ static void line_event_refusals(void)
     LEAVES_ALL(GRIMHOLDI_OUTSIDE, line_event(0, 5));
     for (number = 0; number < 8; number++)
         LEAVES_ALL(GRIMHOLDI_NOT_NOW, line_event(number, 1));
-    configured_hub();
+    configured_hub(4, 3);
     LEAVES_ALL(GRIMHOLDI_OUTSIDE, line_event(8, 1));
     LEAVES_ALL(GRIMHOLDI_OUTSIDE, line_event(256 + 6, 1));
     LEAVES_ALL(GRIMHOLDI_OUTSIDE, line_event(FAR_NUMBER, 1));
@@ -396,7 +381,7 @@ static void busy_hub(void)
 {
     uint32_t lane;
 
-    configured_hub();
+    configured_hub(4, 3);
     CHECK(set_feature(GRIMHOLDI_PORT_POWER, 2) == GRIMHOLDI_DONE);
     CHECK(event(GRIMHOLDI_EVENT_ATTACH_FULL, 2) == GRIMHOLDI_DONE);
     for (lane = 0; lane <= GRIMHOLDI_LANE_MAX; lane++) {
@@ -413,7 +398,7 @@ static void lane_refusals(void)
 
     new_hub(4, 3);
     lane_numbers();
-    configured_hub();
+    configured_hub(4, 3);
     lane_numbers();
     busy_hub();
     lane_numbers();

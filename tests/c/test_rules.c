@@ -28,6 +28,19 @@ static void enabled_hub(uint32_t buffers)
     port_after(4, buffers);
 }
 
+/* Whether the event takes place, for no reason, or is NOT_NOW. */
+static int event_is(int taken, uint32_t number)
+{
+    grimholdi_reason reason = grimholdi_why_line_event(area, area_len,
+                                                       number, PORT);
+
+    if (taken)
+        return is_reason(reason, GRIMHOLDI_WHY_NONE, 0)
+               && event(number, PORT) == GRIMHOLDI_DONE;
+    return is_reason(reason, GRIMHOLDI_WHY_NUMBER, GRIMHOLDI_NOT_NOW)
+           && event(number, PORT) == GRIMHOLDI_NOT_NOW;
+}
+
 /* Which events each state takes; the others answer NOT_NOW. */
 static void events_by_state(void)
 {
@@ -46,9 +59,7 @@ static void events_by_state(void)
     for (state = 0; state < 7; state++)
         for (number = 0; number < 8; number++) {
             port_after(state, 3);
-            CHECK(event(number, PORT) == (taken[state][number] == '1'
-                                          ? GRIMHOLDI_DONE
-                                          : GRIMHOLDI_NOT_NOW));
+            CHECK(event_is(taken[state][number] == '1', number));
         }
 }
 

@@ -56,14 +56,16 @@ enum {
     ALL_FLAGS = 7
 };
 
-static uint8_t *port_of(uint8_t *area, uint32_t number)
+/* Where a port or a buffer begins. */
+
+static size_t port_at(uint32_t number)
 {
-    return area + HEADER_LENGTH + PORT_LENGTH * (number - 1);
+    return (size_t)HEADER_LENGTH + PORT_LENGTH * (number - 1);
 }
 
-static uint8_t *buffer_of(uint8_t *area, uint32_t number)
+static size_t buffer_at(const uint8_t *area, uint32_t number)
 {
-    return area + HEADER_LENGTH + PORT_LENGTH * area[PORTS]
+    return (size_t)HEADER_LENGTH + PORT_LENGTH * area[PORTS]
            + BUFFER_LENGTH * number;
 }
 
@@ -193,13 +195,14 @@ static int has_key(const uint8_t *buffer, uint32_t lane, uint32_t address,
 }
 
 /* The number of the buffer with the key, or the number of buffers. */
-static uint32_t find(uint8_t *area, uint32_t lane, uint32_t address,
+static uint32_t find(const uint8_t *area, uint32_t lane, uint32_t address,
                      uint32_t endpoint, uint32_t direction)
 {
     uint32_t i;
 
     for (i = 0; i < area[BUFFERS]; i++)
-        if (has_key(buffer_of(area, i), lane, address, endpoint, direction))
+        if (has_key(area + buffer_at(area, i), lane, address, endpoint,
+                    direction))
             break;
     return i;
 }
@@ -284,15 +287,15 @@ static int buffer_ok(const uint8_t *buffer)
 }
 
 /* No earlier buffer has this one's key or place. */
-static int buffer_differs(uint8_t *area, uint32_t number)
+static int buffer_differs(const uint8_t *area, uint32_t number)
 {
-    const uint8_t *buffer = buffer_of(area, number);
+    const uint8_t *buffer = area + buffer_at(area, number);
     uint32_t i;
 
     if (buffer[STATUS] == EMPTY)
         return 1;
     for (i = 0; i < number; i++) {
-        const uint8_t *other = buffer_of(area, i);
+        const uint8_t *other = area + buffer_at(area, i);
 
         if (has_key(other, lane_of(buffer), buffer[ADDRESS],
                     buffer[ENDPOINT], direction_of(buffer[PID])))
@@ -305,13 +308,13 @@ static int buffer_differs(uint8_t *area, uint32_t number)
 }
 
 /* Each buffer for itself, and no lane beyond its limit. */
-static int buffers_ok(uint8_t *area)
+static int buffers_ok(const uint8_t *area)
 {
     uint32_t held[GRIMHOLDI_LANE_MAX + 1] = {0};
     uint32_t i;
 
     for (i = 0; i < area[BUFFERS]; i++) {
-        const uint8_t *buffer = buffer_of(area, i);
+        const uint8_t *buffer = area + buffer_at(area, i);
 
         if (!buffer_ok(buffer) || !buffer_differs(area, i))
             return 0;
@@ -321,19 +324,19 @@ static int buffers_ok(uint8_t *area)
     return held[0] <= limit(area) && held[1] <= limit(area);
 }
 
-static int area_ok(uint8_t *area, size_t length)
+static int area_ok(const uint8_t *area, size_t length)
 {
     uint32_t i;
 
     if (!header_ok(area, length))
         return 0;
     for (i = 1; i <= area[PORTS]; i++)
-        if (!port_ok(port_of(area, i), area[CONFIGURED]))
+        if (!port_ok(area + port_at(i), area[CONFIGURED]))
             return 0;
     if (!buffers_ok(area))
         return 0;
     return area[LOW_SIDE] != LOW_RUNNING
-           || buffer_of(area, area[RUNNING_BUFFER])[STATUS] == PENDING;
+           || area[buffer_at(area, area[RUNNING_BUFFER]) + STATUS] == PENDING;
 }
 
 /* Changes to a whole part of the hub. */
@@ -346,7 +349,7 @@ static void set_low_side(uint8_t *area, uint8_t low_side, uint8_t running)
 
 static void empty_translator(uint8_t *area)
 {
-    memset(buffer_of(area, 0), 0, buffers_length(area));
+    memset(area + buffer_at(area, 0), 0, buffers_length(area));
     set_low_side(area, LOW_IDLE, 0);
 }
 
@@ -445,57 +448,83 @@ static void port_status(const uint8_t *port, uint8_t bytes[4])
     bytes[3] = 0;
 }
 
-/* Whether the event took place. */
-static int port_event(uint8_t *port, uint32_t event)
+static uint8_t changes_of(const uint8_t *area, uint32_t port)
+{
+    return area[port_at(port) + MARKS] & CHANGES;
+}
+
+/* The status change bitmap. */
+static uint8_t bitmap(const uint8_t *area)
+{
+    uint8_t bits = 0;
+    uint32_t i;
+
+    for (i = 1; i <= area[PORTS]; i++)
+        if (changes_of(area, i) != 0)
+            bits |= (uint8_t)(1u << i);
+    return bits;
+}
+
+/* Whether the event can take place; over-current can in each state. */
+static int event_suits(const uint8_t *port, uint32_t event)
 {
     uint8_t state = port[STATE];
 
     switch (event) {
     case GRIMHOLDI_EVENT_ATTACH_LOW:
     case GRIMHOLDI_EVENT_ATTACH_FULL:
-        if (state != DISCONNECTED)
-            return 0;
+        return state == DISCONNECTED;
+    case GRIMHOLDI_EVENT_DETACH:
+        return state == DISABLED || state == ENABLED || state == SUSPENDED;
+    case GRIMHOLDI_EVENT_CHIRP:
+        return state == RESETTING && port[SPEED] == SPEED_FULL;
+    case GRIMHOLDI_EVENT_WAKE:
+        return state == SUSPENDED;
+    case GRIMHOLDI_EVENT_PORT_ERROR:
+        return state == ENABLED;
+    default:
+        return 1;
+    }
+}
+
+/* The event suits the port. */
+static void port_event(uint8_t *port, uint32_t event)
+{
+    switch (event) {
+    case GRIMHOLDI_EVENT_ATTACH_LOW:
+    case GRIMHOLDI_EVENT_ATTACH_FULL:
         go(port, DISABLED);
         port[SPEED] = event == GRIMHOLDI_EVENT_ATTACH_LOW ? SPEED_LOW
                                                           : SPEED_FULL;
         port[MARKS] |= GRIMHOLDI_CHANGE_CONNECTION;
         break;
     case GRIMHOLDI_EVENT_DETACH:
-        if (state != DISABLED && state != ENABLED && state != SUSPENDED)
-            return 0;
         go(port, DISCONNECTED);
         port[MARKS] |= GRIMHOLDI_CHANGE_CONNECTION;
         break;
     case GRIMHOLDI_EVENT_CHIRP:
-        if (state != RESETTING || port[SPEED] != SPEED_FULL)
-            return 0;
         port[SPEED] = SPEED_HIGH;
         break;
     case GRIMHOLDI_EVENT_WAKE:
-        if (state != SUSPENDED)
-            return 0;
         go(port, RESUMING);
         break;
     case GRIMHOLDI_EVENT_PORT_ERROR:
-        if (state != ENABLED)
-            return 0;
         go(port, DISABLED);
         port[MARKS] |= GRIMHOLDI_CHANGE_ENABLE;
         break;
     case GRIMHOLDI_EVENT_OVER_CURRENT_ON:
-        if (port[MARKS] & OVER_CURRENT)
-            return 1;
-        go(port, POWERED_OFF);
-        port[MARKS] |= OVER_CURRENT | GRIMHOLDI_CHANGE_OVER_CURRENT;
+        if (!(port[MARKS] & OVER_CURRENT)) {
+            go(port, POWERED_OFF);
+            port[MARKS] |= OVER_CURRENT | GRIMHOLDI_CHANGE_OVER_CURRENT;
+        }
         break;
     case GRIMHOLDI_EVENT_OVER_CURRENT_OFF:
-        if (!(port[MARKS] & OVER_CURRENT))
-            return 1;
-        port[MARKS] &= (uint8_t)~OVER_CURRENT;
-        port[MARKS] |= GRIMHOLDI_CHANGE_OVER_CURRENT;
+        if (port[MARKS] & OVER_CURRENT) {
+            port[MARKS] &= (uint8_t)~OVER_CURRENT;
+            port[MARKS] |= GRIMHOLDI_CHANGE_OVER_CURRENT;
+        }
         break;
     }
-    return 1;
 }
 
 static void port_tick(uint8_t *port)
@@ -524,7 +553,7 @@ static void set_configuration(uint8_t *area, uint8_t value)
 
     area[CONFIGURED] = value;
     for (i = 1; i <= area[PORTS]; i++) {
-        uint8_t *port = port_of(area, i);
+        uint8_t *port = area + port_at(i);
 
         go(port, value ? POWERED_OFF : NOT_CONFIGURED);
         if (!value)
@@ -536,7 +565,7 @@ static void set_configuration(uint8_t *area, uint8_t value)
 /* Empties one buffer; a running transaction is abandoned with it. */
 static void empty_buffer(uint8_t *area, uint32_t number)
 {
-    memset(buffer_of(area, number), 0, BUFFER_LENGTH);
+    memset(area + buffer_at(area, number), 0, BUFFER_LENGTH);
     if (area[LOW_SIDE] == LOW_RUNNING && area[RUNNING_BUFFER] == number)
         set_low_side(area, LOW_ABANDONED, 0);
 }
@@ -556,7 +585,7 @@ static void reset_tt(uint8_t *area, uint32_t lane)
     uint32_t i;
 
     for (i = 0; i < area[BUFFERS]; i++) {
-        const uint8_t *buffer = buffer_of(area, i);
+        const uint8_t *buffer = area + buffer_at(area, i);
 
         if (buffer[STATUS] != EMPTY && lane_of(buffer) == lane)
             empty_buffer(area, i);
@@ -572,105 +601,178 @@ static int tt_value_ok(uint16_t value)
                || transfer == GRIMHOLDI_TRANSFER_BULK);
 }
 
+static int clearable(uint16_t feature)
+{
+    return feature == GRIMHOLDI_PORT_ENABLE
+           || feature == GRIMHOLDI_PORT_SUSPEND
+           || feature == GRIMHOLDI_PORT_POWER
+           || (feature >= GRIMHOLDI_C_PORT_CONNECTION
+               && feature <= GRIMHOLDI_C_PORT_RESET);
+}
+
+static int settable(uint16_t feature)
+{
+    return feature == GRIMHOLDI_PORT_SUSPEND || feature == GRIMHOLDI_PORT_RESET
+           || feature == GRIMHOLDI_PORT_POWER;
+}
+
 #define REQUEST(type, code) ((uint16_t)((type) << 8 | (code)))
 
-static grimholdi_answer control(uint8_t *area, uint32_t lane,
-                                const uint8_t *setup, uint8_t *reply)
+enum { /* type and code */
+    SET_CONFIGURATION = REQUEST(GRIMHOLDI_TYPE_SET_CONFIGURATION,
+                                GRIMHOLDI_REQUEST_SET_CONFIGURATION),
+    GET_CONFIGURATION = REQUEST(GRIMHOLDI_TYPE_GET_CONFIGURATION,
+                                GRIMHOLDI_REQUEST_GET_CONFIGURATION),
+    GET_HUB_DESCRIPTOR = REQUEST(GRIMHOLDI_TYPE_GET_HUB,
+                                 GRIMHOLDI_REQUEST_GET_DESCRIPTOR),
+    GET_HUB_STATUS = REQUEST(GRIMHOLDI_TYPE_GET_HUB,
+                             GRIMHOLDI_REQUEST_GET_STATUS),
+    GET_PORT_STATUS = REQUEST(GRIMHOLDI_TYPE_GET_PORT,
+                              GRIMHOLDI_REQUEST_GET_STATUS),
+    CLEAR_HUB_FEATURE = REQUEST(GRIMHOLDI_TYPE_SET_HUB,
+                                GRIMHOLDI_REQUEST_CLEAR_FEATURE),
+    CLEAR_PORT_FEATURE = REQUEST(GRIMHOLDI_TYPE_SET_PORT,
+                                 GRIMHOLDI_REQUEST_CLEAR_FEATURE),
+    SET_PORT_FEATURE = REQUEST(GRIMHOLDI_TYPE_SET_PORT,
+                               GRIMHOLDI_REQUEST_SET_FEATURE),
+    CLEAR_TT_BUFFER = REQUEST(GRIMHOLDI_TYPE_SET_PORT,
+                              GRIMHOLDI_REQUEST_CLEAR_TT_BUFFER),
+    RESET_TT = REQUEST(GRIMHOLDI_TYPE_SET_PORT, GRIMHOLDI_REQUEST_RESET_TT)
+};
+
+typedef struct {
+    uint16_t request, value, index, length;
+} packet;
+
+static packet packet_of(const uint8_t *setup)
 {
-    const uint16_t request = REQUEST(setup[0], setup[1]);
-    const uint16_t value = (uint16_t)(setup[2] | setup[3] << 8);
-    const uint16_t index = (uint16_t)(setup[4] | setup[5] << 8);
-    const uint16_t length = (uint16_t)(setup[6] | setup[7] << 8);
-    const int port_named = index >= 1 && index <= area[PORTS];
-    uint8_t bytes[GRIMHOLDI_HUB_DESCRIPTOR_LENGTH] = {0};
+    packet p;
 
-    switch (request) {
-    case REQUEST(GRIMHOLDI_TYPE_SET_CONFIGURATION,
-                 GRIMHOLDI_REQUEST_SET_CONFIGURATION):
-        if (value > 1 || index != 0 || length != 0)
-            return answer(GRIMHOLDI_STALL);
-        set_configuration(area, (uint8_t)value);
-        return answer(GRIMHOLDI_DONE);
-    case REQUEST(GRIMHOLDI_TYPE_GET_CONFIGURATION,
-                 GRIMHOLDI_REQUEST_GET_CONFIGURATION):
-        if (value != 0 || index != 0 || length != 1)
-            return answer(GRIMHOLDI_STALL);
-        return data(reply, &area[CONFIGURED], 1);
-    case REQUEST(GRIMHOLDI_TYPE_GET_HUB, GRIMHOLDI_REQUEST_GET_DESCRIPTOR):
-        if (value != GRIMHOLDI_HUB_DESCRIPTOR || index != 0)
-            return answer(GRIMHOLDI_STALL);
-        bytes[0] = GRIMHOLDI_HUB_DESCRIPTOR_LENGTH;
-        bytes[1] = GRIMHOLDI_HUB_DESCRIPTOR >> 8;
-        bytes[2] = area[PORTS];
-        bytes[3] = 0x09;
-        bytes[5] = area[POWER_GOOD];
-        bytes[6] = area[CURRENT];
-        bytes[7] = area[REMOVABLE];
-        bytes[8] = 0xFF;
-        return data(reply, bytes,
-                    length < sizeof bytes ? (uint8_t)length : sizeof bytes);
-    }
+    p.request = REQUEST(setup[0], setup[1]);
+    p.value = (uint16_t)(setup[2] | setup[3] << 8);
+    p.index = (uint16_t)(setup[4] | setup[5] << 8);
+    p.length = (uint16_t)(setup[6] | setup[7] << 8);
+    return p;
+}
 
-    if (!area[CONFIGURED])
-        return answer(GRIMHOLDI_STALL);
+enum { NOTHING_WRONG = GRIMHOLDI_WRONG_LENGTH + 1 };
 
-    switch (request) {
-    case REQUEST(GRIMHOLDI_TYPE_GET_HUB, GRIMHOLDI_REQUEST_GET_STATUS):
-        if (value != 0 || index != 0 || length != 4)
-            return answer(GRIMHOLDI_STALL);
-        return data(reply, bytes, 4);
-    case REQUEST(GRIMHOLDI_TYPE_GET_PORT, GRIMHOLDI_REQUEST_GET_STATUS):
-        if (value != 0 || !port_named || length != 4)
-            return answer(GRIMHOLDI_STALL);
-        port_status(port_of(area, index), bytes);
-        return data(reply, bytes, 4);
-    case REQUEST(GRIMHOLDI_TYPE_SET_HUB, GRIMHOLDI_REQUEST_CLEAR_FEATURE):
-        if (value > GRIMHOLDI_C_HUB_OVER_CURRENT || index != 0 || length != 0)
-            return answer(GRIMHOLDI_STALL);
-        return answer(GRIMHOLDI_DONE);
-    case REQUEST(GRIMHOLDI_TYPE_SET_PORT, GRIMHOLDI_REQUEST_CLEAR_FEATURE):
-        if (!port_named || length != 0
-            || !(value == GRIMHOLDI_PORT_ENABLE
-                 || value == GRIMHOLDI_PORT_SUSPEND
-                 || value == GRIMHOLDI_PORT_POWER
-                 || (value >= GRIMHOLDI_C_PORT_CONNECTION
-                     && value <= GRIMHOLDI_C_PORT_RESET)))
-            return answer(GRIMHOLDI_STALL);
-        clear_port_feature(port_of(area, index), value);
-        return answer(GRIMHOLDI_DONE);
-    case REQUEST(GRIMHOLDI_TYPE_SET_PORT, GRIMHOLDI_REQUEST_SET_FEATURE):
-        if (!port_named || length != 0
-            || !(value == GRIMHOLDI_PORT_SUSPEND
-                 || value == GRIMHOLDI_PORT_RESET
-                 || value == GRIMHOLDI_PORT_POWER))
-            return answer(GRIMHOLDI_STALL);
-        set_port_feature(port_of(area, index), value);
-        return answer(GRIMHOLDI_DONE);
-    case REQUEST(GRIMHOLDI_TYPE_SET_PORT, GRIMHOLDI_REQUEST_CLEAR_TT_BUFFER):
-        if (!tt_value_ok(value) || index != 1 || length != 0)
-            return answer(GRIMHOLDI_STALL);
-        clear_tt_buffer(area, lane, value);
-        return answer(GRIMHOLDI_DONE);
-    case REQUEST(GRIMHOLDI_TYPE_SET_PORT, GRIMHOLDI_REQUEST_RESET_TT):
-        if (value != 0 || index != 1 || length != 0)
-            return answer(GRIMHOLDI_STALL);
-        reset_tt(area, lane);
-        return answer(GRIMHOLDI_DONE);
+static uint8_t fields(int value_ok, int index_ok, int length_ok)
+{
+    if (!value_ok)
+        return GRIMHOLDI_WRONG_VALUE;
+    if (!index_ok)
+        return GRIMHOLDI_WRONG_INDEX;
+    return length_ok ? NOTHING_WRONG : GRIMHOLDI_WRONG_LENGTH;
+}
+
+/* The first thing that is wrong with a request to a configured hub. */
+static uint8_t wrong_configured(const uint8_t *area, packet p)
+{
+    const int port_named = p.index >= 1 && p.index <= area[PORTS];
+
+    switch (p.request) {
+    case SET_CONFIGURATION:
+        return fields(p.value <= 1, p.index == 0, p.length == 0);
+    case GET_CONFIGURATION:
+        return fields(p.value == 0, p.index == 0, p.length == 1);
+    case GET_HUB_DESCRIPTOR:
+        return fields(p.value == GRIMHOLDI_HUB_DESCRIPTOR, p.index == 0, 1);
+    case GET_HUB_STATUS:
+        return fields(p.value == 0, p.index == 0, p.length == 4);
+    case GET_PORT_STATUS:
+        return fields(p.value == 0, port_named, p.length == 4);
+    case CLEAR_HUB_FEATURE:
+        return fields(p.value <= GRIMHOLDI_C_HUB_OVER_CURRENT, p.index == 0,
+                      p.length == 0);
+    case CLEAR_PORT_FEATURE:
+        return fields(clearable(p.value), port_named, p.length == 0);
+    case SET_PORT_FEATURE:
+        return fields(settable(p.value), port_named, p.length == 0);
+    case CLEAR_TT_BUFFER:
+        return fields(tt_value_ok(p.value), p.index == 1, p.length == 0);
+    case RESET_TT:
+        return fields(p.value == 0, p.index == 1, p.length == 0);
     default:
-        return answer(GRIMHOLDI_STALL);
+        return GRIMHOLDI_WRONG_TYPE_OR_CODE;
     }
+}
+
+static int served_unconfigured(uint16_t request)
+{
+    return request == SET_CONFIGURATION || request == GET_CONFIGURATION
+           || request == GET_HUB_DESCRIPTOR;
+}
+
+/* The first thing that is wrong with a request. */
+static uint8_t wrong(const uint8_t *area, packet p)
+{
+    uint8_t what = wrong_configured(area, p);
+
+    if (what != GRIMHOLDI_WRONG_TYPE_OR_CODE && !area[CONFIGURED]
+        && !served_unconfigured(p.request))
+        return GRIMHOLDI_WRONG_UNCONFIGURED;
+    return what;
+}
+
+static grimholdi_answer hub_descriptor(const uint8_t *area, uint16_t length,
+                                       uint8_t *reply)
+{
+    const uint8_t bytes[GRIMHOLDI_HUB_DESCRIPTOR_LENGTH] = {
+        GRIMHOLDI_HUB_DESCRIPTOR_LENGTH, GRIMHOLDI_HUB_DESCRIPTOR >> 8,
+        area[PORTS], 0x09, 0x00, area[POWER_GOOD], area[CURRENT],
+        area[REMOVABLE], 0xFF
+    };
+
+    return data(reply, bytes,
+                length < sizeof bytes ? (uint8_t)length : sizeof bytes);
+}
+
+/* Nothing is wrong with the request. */
+static grimholdi_answer serve(uint8_t *area, uint32_t lane, packet p,
+                              uint8_t *reply)
+{
+    uint8_t bytes[4] = {0};
+
+    switch (p.request) {
+    case SET_CONFIGURATION:
+        set_configuration(area, (uint8_t)p.value);
+        break;
+    case GET_CONFIGURATION:
+        return data(reply, &area[CONFIGURED], 1);
+    case GET_HUB_DESCRIPTOR:
+        return hub_descriptor(area, p.length, reply);
+    case GET_HUB_STATUS:
+        return data(reply, bytes, sizeof bytes);
+    case GET_PORT_STATUS:
+        port_status(area + port_at(p.index), bytes);
+        return data(reply, bytes, sizeof bytes);
+    case CLEAR_PORT_FEATURE:
+        clear_port_feature(area + port_at(p.index), p.value);
+        break;
+    case SET_PORT_FEATURE:
+        set_port_feature(area + port_at(p.index), p.value);
+        break;
+    case CLEAR_TT_BUFFER:
+        clear_tt_buffer(area, lane, p.value);
+        break;
+    case RESET_TT:
+        reset_tt(area, lane);
+        break;
+    }
+    return answer(GRIMHOLDI_DONE);
 }
 
 /* Order of acceptance. */
 
 /* How many pending buffers have a smaller place. */
-static uint8_t rank(uint8_t *area, uint8_t place)
+static uint8_t rank(const uint8_t *area, uint8_t place)
 {
     uint8_t smaller = 0;
     uint32_t i;
 
     for (i = 0; i < area[BUFFERS]; i++) {
-        const uint8_t *buffer = buffer_of(area, i);
+        const uint8_t *buffer = area + buffer_at(area, i);
 
         if (buffer[STATUS] == PENDING && buffer[PLACE] < place)
             smaller++;
@@ -686,9 +788,9 @@ static uint8_t renumber(uint8_t *area)
     uint32_t i;
 
     for (i = 0; i < area[BUFFERS]; i++)
-        ranks[i] = rank(area, buffer_of(area, i)[PLACE]);
+        ranks[i] = rank(area, area[buffer_at(area, i) + PLACE]);
     for (i = 0; i < area[BUFFERS]; i++) {
-        uint8_t *buffer = buffer_of(area, i);
+        uint8_t *buffer = area + buffer_at(area, i);
 
         if (buffer[STATUS] == PENDING) {
             buffer[PLACE] = ranks[i];
@@ -699,48 +801,168 @@ static uint8_t renumber(uint8_t *area)
 }
 
 /* The pending buffer with the smallest place, or the number of buffers. */
-static uint32_t earliest(uint8_t *area)
+static uint32_t earliest(const uint8_t *area)
 {
     uint32_t best = area[BUFFERS];
     uint32_t i;
 
     for (i = 0; i < area[BUFFERS]; i++) {
-        const uint8_t *buffer = buffer_of(area, i);
+        const uint8_t *buffer = area + buffer_at(area, i);
 
         if (buffer[STATUS] == PENDING
             && (best == area[BUFFERS]
-                || buffer[PLACE] < buffer_of(area, best)[PLACE]))
+                || buffer[PLACE] < area[buffer_at(area, best) + PLACE]))
             best = i;
     }
     return best;
 }
 
-/* Search for a start-split. */
+/* The choice of a start-split. */
 
 typedef struct {
-    uint32_t own;         /* the buffer with the key */
-    uint32_t lowest_free; /* the first that is empty or old */
-    uint32_t held;        /* how many the lane holds */
-} search;
+    uint8_t kind;   /* HELD to NO_ROOM, as a reason has it */
+    uint8_t buffer; /* the one it names, or 0 */
+} choice;
 
-/* One pass; a buffer that isn't there is given as the number of buffers. */
-static search look(uint8_t *area, uint32_t lane, uint32_t address,
-                   uint32_t endpoint, uint32_t direction)
+static choice chosen(uint8_t kind, uint32_t buffer)
 {
-    search found = {area[BUFFERS], area[BUFFERS], 0};
+    choice c;
+
+    c.kind = kind;
+    c.buffer = (uint8_t)buffer;
+    return c;
+}
+
+/* A repeat comes before the limit, the limit before the own old buffer. */
+static inline choice choose(const uint8_t *area, uint32_t lane,
+                            uint32_t address, uint32_t endpoint,
+                            uint32_t direction)
+{
+    const uint32_t none = area[BUFFERS];
+    uint32_t own = none;         /* the buffer with the key */
+    uint32_t lowest_free = none; /* the first that is empty or old */
+    uint32_t held = 0;           /* how many the lane holds */
     uint32_t i;
 
     for (i = 0; i < area[BUFFERS]; i++) {
-        const uint8_t *buffer = buffer_of(area, i);
+        const uint8_t *buffer = area + buffer_at(area, i);
 
         if (has_key(buffer, lane, address, endpoint, direction))
-            found.own = i;
+            own = i;
         if (is_held(buffer))
-            found.held += lane_of(buffer) == lane;
-        else if (found.lowest_free == area[BUFFERS])
-            found.lowest_free = i;
+            held += lane_of(buffer) == lane;
+        else if (lowest_free == none)
+            lowest_free = i;
     }
-    return found;
+    if (own != none && is_held(area + buffer_at(area, own)))
+        return chosen(GRIMHOLDI_WHY_HELD, own);
+    if (held == limit(area))
+        return chosen(GRIMHOLDI_WHY_LIMIT, 0);
+    if (own != none)
+        return chosen(GRIMHOLDI_WHY_REUSED, own);
+    if (lowest_free != none)
+        return chosen(GRIMHOLDI_WHY_TOOK_FREE, lowest_free);
+    return chosen(GRIMHOLDI_WHY_NO_ROOM, 0);
+}
+
+/*
+ * Which of 5 to 8 each call is answered, or 0 for another answer.  Inline, as
+ * the choice is: both the call and its explanation ask.
+ */
+
+static inline uint8_t area_refusal(const uint8_t *area, size_t area_len)
+{
+    return area_ok(area, area_len) ? 0 : GRIMHOLDI_OUTSIDE;
+}
+
+static inline uint8_t control_refusal(const uint8_t *area, size_t area_len,
+                                      uint32_t lane, size_t setup_len,
+                                      size_t reply_len)
+{
+    if (!area_ok(area, area_len) || !lane_ok(lane)
+        || setup_len != GRIMHOLDI_SETUP_LENGTH)
+        return GRIMHOLDI_OUTSIDE;
+    return reply_len < GRIMHOLDI_REPLY_LENGTH ? GRIMHOLDI_NO_SPACE : 0;
+}
+
+static inline uint8_t poll_refusal(const uint8_t *area, size_t area_len,
+                                   uint32_t lane, size_t reply_len)
+{
+    if (!area_ok(area, area_len) || !lane_ok(lane))
+        return GRIMHOLDI_OUTSIDE;
+    if (reply_len < GRIMHOLDI_REPLY_LENGTH)
+        return GRIMHOLDI_NO_SPACE;
+    return area[CONFIGURED] ? 0 : GRIMHOLDI_SILENT;
+}
+
+static inline uint8_t start_split_refusal(const uint8_t *area,
+                                          size_t area_len, uint32_t lane,
+                                          uint32_t pid, uint32_t transfer,
+                                          uint32_t low_speed, uint32_t toggle,
+                                          uint32_t address, uint32_t endpoint,
+                                          size_t payload_len)
+{
+    if (!area_ok(area, area_len) || !lane_ok(lane) || !token_ok(pid, transfer)
+        || low_speed > 1 || toggle > 1 || !target_ok(address, endpoint)
+        || !start_length_ok(pid, payload_len))
+        return GRIMHOLDI_OUTSIDE;
+    return area[CONFIGURED] ? 0 : GRIMHOLDI_SILENT;
+}
+
+static inline uint8_t complete_split_refusal(const uint8_t *area,
+                                             size_t area_len, uint32_t lane,
+                                             uint32_t address,
+                                             uint32_t endpoint,
+                                             uint32_t direction,
+                                             size_t reply_len)
+{
+    if (!area_ok(area, area_len) || !lane_ok(lane)
+        || !target_ok(address, endpoint)
+        || direction > GRIMHOLDI_DIRECTION_IN)
+        return GRIMHOLDI_OUTSIDE;
+    if (reply_len < GRIMHOLDI_REPLY_LENGTH)
+        return GRIMHOLDI_NO_SPACE;
+    return area[CONFIGURED] ? 0 : GRIMHOLDI_SILENT;
+}
+
+static inline uint8_t launch_refusal(const uint8_t *area, size_t area_len,
+                                     size_t reply_len)
+{
+    if (!area_ok(area, area_len))
+        return GRIMHOLDI_OUTSIDE;
+    if (reply_len < GRIMHOLDI_REPLY_LENGTH)
+        return GRIMHOLDI_NO_SPACE;
+    if (!area[CONFIGURED])
+        return GRIMHOLDI_SILENT;
+    return area[LOW_SIDE] == LOW_IDLE ? 0 : GRIMHOLDI_NOT_NOW;
+}
+
+/* An abandoned transaction takes any result. */
+static inline uint8_t deliver_refusal(const uint8_t *area, size_t area_len,
+                                      uint32_t result, size_t payload_len)
+{
+    if (!area_ok(area, area_len) || !result_ok(result, payload_len))
+        return GRIMHOLDI_OUTSIDE;
+    if (!area[CONFIGURED])
+        return GRIMHOLDI_SILENT;
+    if (area[LOW_SIDE] == LOW_IDLE)
+        return GRIMHOLDI_NOT_NOW;
+    if (area[LOW_SIDE] == LOW_RUNNING
+        && !result_suits(area[buffer_at(area, area[RUNNING_BUFFER]) + PID],
+                         result))
+        return GRIMHOLDI_NOT_NOW;
+    return 0;
+}
+
+static inline uint8_t line_event_refusal(const uint8_t *area, size_t area_len,
+                                         uint32_t event, uint32_t port)
+{
+    if (!area_ok(area, area_len) || event > GRIMHOLDI_EVENT_OVER_CURRENT_OFF
+        || port == 0 || port > area[PORTS])
+        return GRIMHOLDI_OUTSIDE;
+    if (!area[CONFIGURED] || !event_suits(area + port_at(port), event))
+        return GRIMHOLDI_NOT_NOW;
+    return 0;
 }
 
 /* The calls. */
@@ -777,33 +999,31 @@ grimholdi_answer INPLACE(control)(uint8_t *area, size_t area_len,
                                   const uint8_t *setup, size_t setup_len,
                                   uint8_t *reply, size_t reply_len)
 {
-    if (!area_ok(area, area_len) || !lane_ok(lane)
-        || setup_len != GRIMHOLDI_SETUP_LENGTH)
-        return answer(GRIMHOLDI_OUTSIDE);
-    if (reply_len < GRIMHOLDI_REPLY_LENGTH)
-        return answer(GRIMHOLDI_NO_SPACE);
-    return control(area, lane, setup, reply);
+    uint8_t refusal = control_refusal(area, area_len, lane, setup_len,
+                                      reply_len);
+    packet p;
+
+    if (refusal != 0)
+        return answer(refusal);
+    p = packet_of(setup);
+    if (wrong(area, p) != NOTHING_WRONG)
+        return answer(GRIMHOLDI_STALL);
+    return serve(area, lane, p, reply);
 }
 
 grimholdi_answer INPLACE(poll)(uint8_t *area, size_t area_len,
                                uint32_t lane,
                                uint8_t *reply, size_t reply_len)
 {
-    uint8_t bitmap = 0;
-    uint32_t i;
+    uint8_t refusal = poll_refusal(area, area_len, lane, reply_len);
+    uint8_t bytes[1];
 
-    if (!area_ok(area, area_len) || !lane_ok(lane))
-        return answer(GRIMHOLDI_OUTSIDE);
-    if (reply_len < GRIMHOLDI_REPLY_LENGTH)
-        return answer(GRIMHOLDI_NO_SPACE);
-    if (!area[CONFIGURED])
-        return answer(GRIMHOLDI_SILENT);
-    for (i = 1; i <= area[PORTS]; i++)
-        if (port_of(area, i)[MARKS] & CHANGES)
-            bitmap |= (uint8_t)(1u << i);
-    if (bitmap == 0)
+    if (refusal != 0)
+        return answer(refusal);
+    bytes[0] = bitmap(area);
+    if (bytes[0] == 0)
         return answer(GRIMHOLDI_NAK);
-    return data(reply, &bitmap, 1);
+    return data(reply, bytes, sizeof bytes);
 }
 
 grimholdi_answer INPLACE(start_split)(uint8_t *area, size_t area_len,
@@ -814,28 +1034,21 @@ grimholdi_answer INPLACE(start_split)(uint8_t *area, size_t area_len,
                                       const uint8_t *payload,
                                       size_t payload_len)
 {
-    search found;
+    uint8_t refusal = start_split_refusal(area, area_len, lane, pid, transfer,
+                                          low_speed, toggle, address, endpoint,
+                                          payload_len);
+    choice c;
     uint8_t *buffer;
-    uint32_t i;
 
-    if (!area_ok(area, area_len) || !lane_ok(lane) || !token_ok(pid, transfer)
-        || low_speed > 1 || toggle > 1 || !target_ok(address, endpoint)
-        || !start_length_ok(pid, payload_len))
-        return answer(GRIMHOLDI_OUTSIDE);
-    if (!area[CONFIGURED])
-        return answer(GRIMHOLDI_SILENT);
-
-    /* A repeat comes before the limit, the limit before the own old one. */
-    found = look(area, lane, address, endpoint, direction_of(pid));
-    if (found.own < area[BUFFERS] && is_held(buffer_of(area, found.own)))
+    if (refusal != 0)
+        return answer(refusal);
+    c = choose(area, lane, address, endpoint, direction_of(pid));
+    if (c.kind == GRIMHOLDI_WHY_HELD)
         return answer(GRIMHOLDI_DONE);
-    if (found.held == limit(area))
-        return answer(GRIMHOLDI_NAK);
-    i = found.own < area[BUFFERS] ? found.own : found.lowest_free;
-    if (i == area[BUFFERS])
+    if (c.kind == GRIMHOLDI_WHY_LIMIT || c.kind == GRIMHOLDI_WHY_NO_ROOM)
         return answer(GRIMHOLDI_NAK);
 
-    buffer = buffer_of(area, i);
+    buffer = area + buffer_at(area, c.buffer);
     buffer[PLACE] = renumber(area);
     buffer[STATUS] = PENDING;
     buffer[PID] = (uint8_t)pid;
@@ -855,23 +1068,18 @@ grimholdi_answer INPLACE(complete_split)(uint8_t *area, size_t area_len,
                                          uint32_t direction,
                                          uint8_t *reply, size_t reply_len)
 {
+    uint8_t refusal = complete_split_refusal(area, area_len, lane, address,
+                                             endpoint, direction, reply_len);
     grimholdi_answer a;
     uint8_t *buffer;
     uint32_t i;
 
-    if (!area_ok(area, area_len) || !lane_ok(lane)
-        || !target_ok(address, endpoint)
-        || direction > GRIMHOLDI_DIRECTION_IN)
-        return answer(GRIMHOLDI_OUTSIDE);
-    if (reply_len < GRIMHOLDI_REPLY_LENGTH)
-        return answer(GRIMHOLDI_NO_SPACE);
-    if (!area[CONFIGURED])
-        return answer(GRIMHOLDI_SILENT);
-
+    if (refusal != 0)
+        return answer(refusal);
     i = find(area, lane, address, endpoint, direction);
     if (i == area[BUFFERS])
         return answer(GRIMHOLDI_STALL);
-    buffer = buffer_of(area, i);
+    buffer = area + buffer_at(area, i);
     if (buffer[STATUS] == PENDING)
         return answer(GRIMHOLDI_NYET);
     buffer[STATUS] = OLD;
@@ -887,24 +1095,18 @@ grimholdi_answer INPLACE(complete_split)(uint8_t *area, size_t area_len,
 grimholdi_answer INPLACE(launch)(uint8_t *area, size_t area_len,
                                  uint8_t *reply, size_t reply_len)
 {
+    uint8_t refusal = launch_refusal(area, area_len, reply_len);
     grimholdi_answer a;
     const uint8_t *buffer;
     uint32_t i;
 
-    if (!area_ok(area, area_len))
-        return answer(GRIMHOLDI_OUTSIDE);
-    if (reply_len < GRIMHOLDI_REPLY_LENGTH)
-        return answer(GRIMHOLDI_NO_SPACE);
-    if (!area[CONFIGURED])
-        return answer(GRIMHOLDI_SILENT);
-    if (area[LOW_SIDE] != LOW_IDLE)
-        return answer(GRIMHOLDI_NOT_NOW);
-
+    if (refusal != 0)
+        return answer(refusal);
     i = earliest(area);
     if (i == area[BUFFERS])
         return answer(GRIMHOLDI_NAK);
     set_low_side(area, LOW_RUNNING, (uint8_t)i);
-    buffer = buffer_of(area, i);
+    buffer = area + buffer_at(area, i);
     a = data(reply, buffer + BYTES, buffer[LENGTH]);
     a.pid = buffer[PID];
     a.transfer = buffer[TRANSFER];
@@ -921,19 +1123,13 @@ grimholdi_answer INPLACE(deliver)(uint8_t *area, size_t area_len,
                                   uint32_t result,
                                   const uint8_t *payload, size_t payload_len)
 {
-    uint8_t *buffer;
+    uint8_t refusal = deliver_refusal(area, area_len, result, payload_len);
 
-    if (!area_ok(area, area_len) || !result_ok(result, payload_len))
-        return answer(GRIMHOLDI_OUTSIDE);
-    if (!area[CONFIGURED])
-        return answer(GRIMHOLDI_SILENT);
-    if (area[LOW_SIDE] == LOW_IDLE)
-        return answer(GRIMHOLDI_NOT_NOW);
-
+    if (refusal != 0)
+        return answer(refusal);
     if (area[LOW_SIDE] == LOW_RUNNING) {
-        buffer = buffer_of(area, area[RUNNING_BUFFER]);
-        if (!result_suits(buffer[PID], result))
-            return answer(GRIMHOLDI_NOT_NOW);
+        uint8_t *buffer = area + buffer_at(area, area[RUNNING_BUFFER]);
+
         buffer[STATUS] = READY;
         buffer[RESULT] = (uint8_t)result;
         set_bytes(buffer, payload, payload_len);
@@ -945,29 +1141,144 @@ grimholdi_answer INPLACE(deliver)(uint8_t *area, size_t area_len,
 grimholdi_answer INPLACE(line_event)(uint8_t *area, size_t area_len,
                                      uint32_t event, uint32_t port)
 {
-    if (!area_ok(area, area_len) || event > GRIMHOLDI_EVENT_OVER_CURRENT_OFF
-        || port == 0 || port > area[PORTS])
-        return answer(GRIMHOLDI_OUTSIDE);
-    if (!area[CONFIGURED] || !port_event(port_of(area, port), event))
-        return answer(GRIMHOLDI_NOT_NOW);
+    uint8_t refusal = line_event_refusal(area, area_len, event, port);
+
+    if (refusal != 0)
+        return answer(refusal);
+    port_event(area + port_at(port), event);
     return answer(GRIMHOLDI_DONE);
 }
 
 grimholdi_answer INPLACE(tick)(uint8_t *area, size_t area_len)
 {
+    uint8_t refusal = area_refusal(area, area_len);
     uint32_t i;
 
-    if (!area_ok(area, area_len))
-        return answer(GRIMHOLDI_OUTSIDE);
+    if (refusal != 0)
+        return answer(refusal);
     for (i = 1; i <= area[PORTS]; i++)
-        port_tick(port_of(area, i));
+        port_tick(area + port_at(i));
     return answer(GRIMHOLDI_DONE);
 }
 
 grimholdi_answer INPLACE(bus_reset)(uint8_t *area, size_t area_len)
 {
-    if (!area_ok(area, area_len))
-        return answer(GRIMHOLDI_OUTSIDE);
+    uint8_t refusal = area_refusal(area, area_len);
+
+    if (refusal != 0)
+        return answer(refusal);
     memset(area + CONFIGURED, 0, area_len - CONFIGURED);
     return answer(GRIMHOLDI_DONE);
+}
+
+/* The explained calls. */
+
+static grimholdi_reason reason(uint8_t kind, uint8_t value)
+{
+    grimholdi_reason r = {0};
+
+    r.kind = kind;
+    r.value = value;
+    return r;
+}
+
+/* The number that a call is answered, or no reason. */
+static grimholdi_reason refusal_reason(uint8_t refusal)
+{
+    return reason(refusal != 0 ? GRIMHOLDI_WHY_NUMBER : GRIMHOLDI_WHY_NONE,
+                  refusal);
+}
+
+grimholdi_reason INPLACE(why_control)(const uint8_t *area, size_t area_len,
+                                      uint32_t lane, const uint8_t *setup,
+                                      size_t setup_len, size_t reply_len)
+{
+    uint8_t refusal = control_refusal(area, area_len, lane, setup_len,
+                                      reply_len);
+    uint8_t what;
+
+    if (refusal != 0)
+        return refusal_reason(refusal);
+    what = wrong(area, packet_of(setup));
+    if (what == NOTHING_WRONG)
+        return reason(GRIMHOLDI_WHY_NONE, 0);
+    return reason(GRIMHOLDI_WHY_WRONG, what);
+}
+
+grimholdi_reason INPLACE(why_poll)(const uint8_t *area, size_t area_len,
+                                   uint32_t lane, size_t reply_len)
+{
+    uint8_t refusal = poll_refusal(area, area_len, lane, reply_len);
+    grimholdi_reason r;
+    uint32_t i;
+
+    if (refusal != 0 || bitmap(area) == 0)
+        return refusal_reason(refusal);
+    r = reason(GRIMHOLDI_WHY_CHANGES, 0);
+    for (i = 1; i <= area[PORTS]; i++)
+        r.changes[i - 1] = changes_of(area, i);
+    return r;
+}
+
+grimholdi_reason INPLACE(why_start_split)(const uint8_t *area, size_t area_len,
+                                          uint32_t lane, uint32_t pid,
+                                          uint32_t transfer,
+                                          uint32_t low_speed, uint32_t toggle,
+                                          uint32_t address, uint32_t endpoint,
+                                          const uint8_t *payload,
+                                          size_t payload_len)
+{
+    uint8_t refusal = start_split_refusal(area, area_len, lane, pid, transfer,
+                                          low_speed, toggle, address, endpoint,
+                                          payload_len);
+    choice c;
+
+    (void)payload;
+    if (refusal != 0)
+        return refusal_reason(refusal);
+    c = choose(area, lane, address, endpoint, direction_of(pid));
+    return reason(c.kind, c.buffer);
+}
+
+grimholdi_reason INPLACE(why_complete_split)(const uint8_t *area,
+                                             size_t area_len, uint32_t lane,
+                                             uint32_t address,
+                                             uint32_t endpoint,
+                                             uint32_t direction,
+                                             size_t reply_len)
+{
+    return refusal_reason(complete_split_refusal(area, area_len, lane, address,
+                                                 endpoint, direction,
+                                                 reply_len));
+}
+
+grimholdi_reason INPLACE(why_launch)(const uint8_t *area, size_t area_len,
+                                     size_t reply_len)
+{
+    return refusal_reason(launch_refusal(area, area_len, reply_len));
+}
+
+grimholdi_reason INPLACE(why_deliver)(const uint8_t *area, size_t area_len,
+                                      uint32_t result, const uint8_t *payload,
+                                      size_t payload_len)
+{
+    (void)payload;
+    return refusal_reason(deliver_refusal(area, area_len, result,
+                                          payload_len));
+}
+
+grimholdi_reason INPLACE(why_line_event)(const uint8_t *area, size_t area_len,
+                                         uint32_t event, uint32_t port)
+{
+    return refusal_reason(line_event_refusal(area, area_len, event, port));
+}
+
+grimholdi_reason INPLACE(why_tick)(const uint8_t *area, size_t area_len)
+{
+    return refusal_reason(area_refusal(area, area_len));
+}
+
+grimholdi_reason INPLACE(why_bus_reset)(const uint8_t *area, size_t area_len)
+{
+    return refusal_reason(area_refusal(area, area_len));
 }

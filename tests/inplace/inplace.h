@@ -48,4 +48,32 @@ grimholdi_answer INPLACE(line_event)(uint8_t *area, size_t area_len,
 grimholdi_answer INPLACE(tick)(uint8_t *area, size_t area_len);
 grimholdi_answer INPLACE(bus_reset)(uint8_t *area, size_t area_len);
 
+grimholdi_reason INPLACE(why_control)(const uint8_t *area, size_t area_len,
+                                      uint32_t lane, const uint8_t *setup,
+                                      size_t setup_len, size_t reply_len);
+grimholdi_reason INPLACE(why_poll)(const uint8_t *area, size_t area_len,
+                                   uint32_t lane, size_t reply_len);
+grimholdi_reason INPLACE(why_start_split)(const uint8_t *area, size_t area_len,
+                                          uint32_t lane, uint32_t pid,
+                                          uint32_t transfer,
+                                          uint32_t low_speed, uint32_t toggle,
+                                          uint32_t address, uint32_t endpoint,
+                                          const uint8_t *payload,
+                                          size_t payload_len);
+grimholdi_reason INPLACE(why_complete_split)(const uint8_t *area,
+                                             size_t area_len, uint32_t lane,
+                                             uint32_t address,
+                                             uint32_t endpoint,
+                                             uint32_t direction,
+                                             size_t reply_len);
+grimholdi_reason INPLACE(why_launch)(const uint8_t *area, size_t area_len,
+                                     size_t reply_len);
+grimholdi_reason INPLACE(why_deliver)(const uint8_t *area, size_t area_len,
+                                      uint32_t result, const uint8_t *payload,
+                                      size_t payload_len);
+grimholdi_reason INPLACE(why_line_event)(const uint8_t *area, size_t area_len,
+                                         uint32_t event, uint32_t port);
+grimholdi_reason INPLACE(why_tick)(const uint8_t *area, size_t area_len);
+grimholdi_reason INPLACE(why_bus_reset)(const uint8_t *area, size_t area_len);
+
 #endif

@@ -7,7 +7,7 @@ use std::env;
 use std::path::Path;
 use std::process::Command;
 
-const ENTRIES: [&str; 11] = [
+const ENTRIES: [&str; 20] = [
     "grimholdi_area_length",
     "grimholdi_new",
     "grimholdi_control",
@@ -19,6 +19,15 @@ const ENTRIES: [&str; 11] = [
     "grimholdi_line_event",
     "grimholdi_tick",
     "grimholdi_bus_reset",
+    "grimholdi_why_control",
+    "grimholdi_why_poll",
+    "grimholdi_why_start_split",
+    "grimholdi_why_complete_split",
+    "grimholdi_why_launch",
+    "grimholdi_why_deliver",
+    "grimholdi_why_line_event",
+    "grimholdi_why_tick",
+    "grimholdi_why_bus_reset",
 ];
 
 fn main() {

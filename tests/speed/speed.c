@@ -8,6 +8,8 @@
  *                       one of the four calls, after the area is restored
  *   restore             restoring the area alone
  *   poll, status, tick  that call; status is GetPortStatus
+ *   why_start           the reason of a start-split of lane 1: the limit
+ *   why_poll            the reason of a poll: the change bits
  *
  * All ports are enabled with change bits set.  The calls that are measured are
  * made in lane 0, which holds the first buffer.  All others hold a ready
@@ -43,18 +45,26 @@ typedef struct {
                                 size_t);
     grimholdi_answer (*line_event)(uint8_t *, size_t, uint32_t, uint32_t);
     grimholdi_answer (*tick)(uint8_t *, size_t);
+    grimholdi_reason (*why_start_split)(const uint8_t *, size_t, uint32_t,
+                                            uint32_t, uint32_t, uint32_t,
+                                            uint32_t, uint32_t, uint32_t,
+                                            const uint8_t *, size_t);
+    grimholdi_reason (*why_poll)(const uint8_t *, size_t, uint32_t,
+                                     size_t);
 } hub_calls;
 
 static const hub_calls library_calls = {
     grimholdi_area_length, grimholdi_new, grimholdi_control, grimholdi_poll,
     grimholdi_start_split, grimholdi_complete_split, grimholdi_launch,
-    grimholdi_deliver, grimholdi_line_event, grimholdi_tick
+    grimholdi_deliver, grimholdi_line_event, grimholdi_tick,
+    grimholdi_why_start_split, grimholdi_why_poll
 };
 
 static const hub_calls inplace_calls = {
     inplace_area_length, inplace_new, inplace_control, inplace_poll,
     inplace_start_split, inplace_complete_split, inplace_launch,
-    inplace_deliver, inplace_line_event, inplace_tick
+    inplace_deliver, inplace_line_event, inplace_tick,
+    inplace_why_start_split, inplace_why_poll
 };
 
 static const hub_calls *calls;
@@ -70,6 +80,14 @@ static void expect(grimholdi_answer answer, uint8_t number)
     if (answer.number != number) {
         fprintf(stderr, "speed: answer %d instead of %d\n", answer.number,
                 number);
+        exit(1);
+    }
+}
+
+static void expect_kind(grimholdi_reason reason, uint8_t kind)
+{
+    if (reason.kind != kind) {
+        fprintf(stderr, "speed: reason %d instead of %d\n", reason.kind, kind);
         exit(1);
     }
 }
@@ -158,7 +176,10 @@ static int is(const char *word, const char *other)
 }
 
 /* What to measure: one of the stages, or one of these. */
-enum { TRANSACTION = STAGES, RESTORE, POLL, STATUS, TICK, UNKNOWN };
+enum {
+    TRANSACTION = STAGES, RESTORE, POLL, STATUS, TICK, EXPLAIN_START,
+    EXPLAIN_POLL, UNKNOWN
+};
 
 static int named(const char *what)
 {
@@ -172,7 +193,8 @@ static int named(const char *what)
         {"in-deliver", DELIVER},  {"out-deliver", DELIVER},
         {"in-complete", COMPLETE}, {"out-complete", COMPLETE},
         {"restore", RESTORE},     {"poll", POLL},
-        {"status", STATUS},       {"tick", TICK}
+        {"status", STATUS},       {"tick", TICK},
+        {"why_start", EXPLAIN_START}, {"why_poll", EXPLAIN_POLL}
     };
     size_t i;
 
@@ -221,9 +243,29 @@ static void measure(int kind, int out, long loops)
     }
 }
 
+/* The other lane holds all buffers but one, and none with its key. */
+static void explain_starts(long loops)
+{
+    while (loops-- > 0)
+        expect_kind(calls->why_start_split(area, area_len, OTHER_LANE,
+                                               GRIMHOLDI_PID_IN,
+                                               GRIMHOLDI_TRANSFER_BULK, 0, 0,
+                                               OTHER_ADDRESS, ENDPOINT,
+                                               payload, 0),
+                    GRIMHOLDI_WHY_LIMIT);
+}
+
+static void explain_polls(long loops)
+{
+    while (loops-- > 0)
+        expect_kind(calls->why_poll(area, area_len, LANE, sizeof reply),
+                    GRIMHOLDI_WHY_CHANGES);
+}
+
 int main(int argc, char **argv)
 {
     const int kind = argc == 6 ? named(argv[2]) : UNKNOWN;
+    long loops;
     int out;
 
     if (kind == UNKNOWN
@@ -236,7 +278,13 @@ int main(int argc, char **argv)
     ports = (uint32_t)atoi(argv[3]);
     buffers = (uint32_t)atoi(argv[4]);
     out = strncmp(argv[2], "out", 3) == 0;
+    loops = atol(argv[5]);
     set_up(out);
-    measure(kind, out, atol(argv[5]));
+    if (kind == EXPLAIN_START)
+        explain_starts(loops);
+    else if (kind == EXPLAIN_POLL)
+        explain_polls(loops);
+    else
+        measure(kind, out, loops);
     return 0;
 }

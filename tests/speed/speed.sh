@@ -17,7 +17,7 @@ many=3000
 sizes='4:2 7:4'
 calls='in in-start in-launch in-deliver in-complete
 out out-start out-launch out-deliver out-complete
-poll status tick restore'
+poll status tick why_start why_poll restore'
 
 mkdir -p "$out"
 ${CC:-cc} -std=c99 -O2 -Wall -Wextra -Werror -pedantic \
@@ -75,4 +75,5 @@ END {
         printf "\n"
     }
     print "in, out: a 64-byte bulk transaction through its four calls; status: GetPortStatus"
+    print "why_start: the reason of a start-split, the limit; why_poll: the reason of a poll, its change bits"
 }' "$out/counts"

@@ -97,15 +97,15 @@ module _ (h : Hub) (v : ValidHub h) where
 
   -- ---- one entry on the written form of a valid hub
 
-  gives-taken : (x : Asked) → gives (written h) x ≡ gaveBy (step h (callOf x)) (replyOf x)
+  pub gives-taken : (x : Asked) → gives (written h) x ≡ gaveBy (step h (callOf x)) (replyOf x)
   gives-taken x = entry-taken (written h) (record { ok = true; hub = h }) (sym (area-exact .again h v)) refl (callOf x) (replyOf x)
 
-  answer-same : (x : Asked) → seen (gives (written h) x) ≡ step h (callOf x) .answer
+  pub answer-same : (x : Asked) → seen (gives (written h) x) ≡ step h (callOf x) .answer
   answer-same x =
       let a = step h (callOf x) .answer in
       ap seen (gives-taken x) ∙ ap (with-bytes a) (seen-is (a .bytes) (replyOf x) (fits-reply x))
 
-  next-same : (x : Asked) → gives (written h) x .area ≡ written (step h (callOf x) .next)
+  pub next-same : (x : Asked) → gives (written h) x .area ≡ written (step h (callOf x) .next)
   next-same x = ap (λ (g : Gave). g .area) (gives-taken x)
 
 -- ---- runs
@@ -127,12 +127,12 @@ leaves (x ∷ xs) h v =
     ∙ leaves xs (step h (callOf x) .next) (hub-claims .step-valid h v (callOf x))
 
 module _ (m : NewArea) where
-  new-hub : ValidHub (newHubOf (m .numbers))
+  pub new-hub : ValidHub (newHubOf (m .numbers))
   new-hub =
       let n = m .numbers in
       hub-claims .new-valid (n .ports) (n .buffers) (n .powergood) (n .current) (n .removable) (n .fit)
 
-  filled-is : filled m ≡ written (newHubOf (m .numbers))
+  pub filled-is : filled m ≡ written (newHubOf (m .numbers))
   filled-is =
       let n = m .numbers in
       ap (λ (g : Gave). g .area) (new-made (m .memory) (n .ports) (n .buffers) (n .powergood) (n .current) (n .removable) (n .fit) (m .long))

@@ -40,6 +40,7 @@ ghost use Rattle.port.specs.Status.{
   portHighSpeed,
   bit,
   byteOf,
+  changeLow,
   statusBytes,
   hasChange,
 };
@@ -263,14 +264,7 @@ impl Port {
             false,
             false,
         );
-        let change = byte_of(
-            changes.connection,
-            changes.enable,
-            changes.suspend,
-            changes.overcurrent,
-            changes.reset,
-        );
-        [low, high, change, 0]
+        [low, high, changes.byte(), 0]
     }
 
     // Whether a change bit is set.
@@ -707,6 +701,21 @@ impl PortState {
             PortState::Suspended(speed) => speed.is_high(),
             PortState::Resuming(speed, _) => speed.is_high(),
         }
+    }
+}
+
+impl Changes {
+    // Bits 0 to 7 of the change word.
+    pub fn byte(self) -> u8
+        ensures { λ r. ⌜ r ≡ byteOf (changeLow self) ⌝ }
+    {
+        byte_of(
+            self.connection,
+            self.enable,
+            self.suspend,
+            self.overcurrent,
+            self.reset,
+        )
     }
 }
 

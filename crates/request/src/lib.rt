@@ -206,7 +206,7 @@ fn is_port(ports: u8, index: u16) -> bool
 }
 
 impl Kind {
-    fn is_known(self) -> bool
+    pub fn is_known(self) -> bool
         ensures { λ r. ⌜ r ≡ isKnown self ⌝ }
     {
         match self {
@@ -224,7 +224,7 @@ impl Kind {
         }
     }
 
-    fn value_fits(self, value: u16) -> bool
+    pub fn value_fits(self, value: u16) -> bool
         ensures { λ r. ⌜ r ≡ valueFits self value ⌝ }
     {
         match self {
@@ -242,7 +242,7 @@ impl Kind {
         }
     }
 
-    fn index_fits(self, ports: u8, index: u16) -> bool
+    pub fn index_fits(self, ports: u8, index: u16) -> bool
         ensures { λ r. ⌜ r ≡ indexFits ports self index ⌝ }
     {
         match self {
@@ -260,7 +260,7 @@ impl Kind {
         }
     }
 
-    fn length_fits(self, length: u16) -> bool
+    pub fn length_fits(self, length: u16) -> bool
         ensures { λ r. ⌜ r ≡ lengthFits self length ⌝ }
     {
         match self {

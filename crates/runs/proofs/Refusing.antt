@@ -40,15 +40,15 @@ use Rattle.translator.specs.declared.Launched.{Launched}
 use Rattle.translator.specs.declared.Delivered.{Delivered}
 use Rattle.translator.specs.Translator.{at}
 use Rattle.translator.specs.Search.{find}
-use Rattle.translator.specs.Limit.{heldBy, permitted, AtLimit}
+use Rattle.translator.specs.Limit.{permitted, AtLimit}
 use Rattle.translator.specs.Order.{earliest}
 use Rattle.translator.specs.StartSplit.{startBy, startSplit}
 use Rattle.translator.specs.CompleteSplit.{completed, completeAt, completeSplit}
 use Rattle.translator.specs.Launch.{launched, launchAt, launchBy, launch}
 use Rattle.translator.specs.Deliver.{delivered, deliverBy, deliver, undelivered}
 use Rattle.translator.specs.Answers.{isRefusal, launchNumber, deliverNumber, resultNumber}
-use Rattle.translator.proofs.Finding.{Hit, Miss, FindSays, find-says, PermittedSays, permitted-says}
-use Rattle.translator.proofs.Kept.{in-use, may-store, may-not-store, no-repeat}
+use Rattle.translator.proofs.Finding.{Hit, Miss, FindSays, find-says, may-store, may-not-store, PermittedSays, permitted-says}
+use Rattle.translator.proofs.Kept.{in-use, no-repeat}
 use Rattle.translator.proofs.Calls.{LaunchedAs, launched-as, refused-same}
 use Rattle.numbers.specs.Named.{laneFrom, isResult, resultFrom, eventFrom}
 use Rattle.numbers.specs.Split.{splitNamed, splitFrom, keyFrom}
@@ -389,14 +389,14 @@ module _ (h : Hub) (valid : ValidHub h) where
       fits : startFits s (length l) ≡ true
       fits = and-eq-true-iff (splitNamed z p ty f g a e) (startFits s (length l)) .0 w .1
 
-      below : heldBy (s .lane) (t .buffers) + 1 < t .count → ¬ (AtLimit (laneFrom z) t)
-      below l u = omega (arith, l, u)
+      below : ¬ (AtLimit (s .lane) t) → ¬ (AtLimit (laneFrom z) t)
+      below l u = l u
 
       go : (x : Choice) → PermittedSays (t .count) (keyOf s) (t .count) (t .buffers) x → Verdict h c (startedAs h (startBy t s l x))
       go NoRoom r =
           at-3 h c past-8 never
           (no-repeat t (valid .translator) (keyOf s) NoRoom (r .says) refl, inr (none-in-use (holds (keyOf s)) (r .says .none), none-in-use isFree (r .says .free))) refl
-      go LimitReached r = at-3 h c past-8 never (no-repeat t (valid .translator) (keyOf s) (r .wanted) (r .says) (r .unheld), inl (full (may-not-store t (valid .translator) (s .lane) (r .full)))) refl
+      go LimitReached r = at-3 h c past-8 never (no-repeat t (valid .translator) (keyOf s) (r .wanted) (r .says) (r .unheld), inl (full (may-not-store t (s .lane) (r .full)))) refl
         where
           full : AtLimit (s .lane) t → AtLimit (laneFrom z) t
           full u = u
@@ -405,10 +405,10 @@ module _ (h : Hub) (valid : ValidHub h) where
           (λ u. true≢false (sym (r .active) ∙ u .0 (n .0) (r .found .passes))) never (inl refl)
       go (Reused n) r =
           at-last h c past-8 never
-          (λ u. ⊎-elim (below (may-store t (valid .translator) (s .lane) (r .may))) (λ w. true≢false (sym (r .says .found .passes) ∙ w .0 (n .0) (r .says .found .small))) (u .1)) never (inl refl)
+          (λ u. ⊎-elim (below (may-store t (s .lane) (r .may))) (λ w. true≢false (sym (r .says .found .passes) ∙ w .0 (n .0) (r .says .found .small))) (u .1)) never (inl refl)
       go (Took n) r =
           at-last h c past-8 never
-          (λ u. ⊎-elim (below (may-store t (valid .translator) (s .lane) (r .may))) (λ w. true≢false (sym (r .says .free .passes) ∙ w .1 (n .0) (r .says .free .small))) (u .1)) never (inl refl)
+          (λ u. ⊎-elim (below (may-store t (s .lane) (r .may))) (λ w. true≢false (sym (r .says .free .passes) ∙ w .1 (n .0) (r .says .free .small))) (u .1)) never (inl refl)
 
   result-serves : (r : DeviceResult) → Serves (resultNumber r)
   result-serves result.Failure = inr (inr refl)

@@ -6,7 +6,7 @@ use mathlib.Core.Path.{_≡_, refl, sym, _∙_, ap}
 use mathlib.Core.Logic.{_⊎_, inl, inr}
 use mathlib.Core.List.{List, [], _∷_}
 use mathlib.Core.Bool.{Bool, true, false, false≢true, true≢false}
-use lib.ListN.{length}
+use lib.ListN.{length, take}
 use Rattle.buffer.specs.declared.Lane.{Lane}
 use Rattle.buffer.specs.declared.Lane.the-variants.{Zero, One}
 use Rattle.buffer.specs.declared.Slot.{Slot}
@@ -36,6 +36,7 @@ use Rattle.runs.specs.Tally.{past}
 use Rattle.runs.specs.Refusals.{nak, slotAt, NoneInUse}
 use Rattle.runs.specs.Demand3.{everyKeyOf}
 use Rattle.runs.specs.Share.{holding, Shared, AllShared, LaneShare}
+use Rattle.translator.proofs.Kept.{all-held}
 use Rattle.runs.proofs.Kept.{ev, Tied}
 use Rattle.runs.proofs.Steps.{step-kept}
 use Rattle.runs.proofs.Theorems.{new-tied}
@@ -119,8 +120,8 @@ module _ (hub : Hub) (valid : ValidHub hub) where
   no-nak : (z : Lane) → heldBy z bs ≡ 0 → {P : Type 0} → AtLimit z (hub .translator) ⊎ (P × NoneInUse isFree hub) → ⊥
   no-nak z e (inl a) =
       let two : 2 ≤ hub .translator .count = valid .translator .least in
-      let a′ : hub .translator .count ≤ heldBy z bs + 1 = a in
-      absurd (omega (arith, e, two, a′))
+      let a′ : hub .translator .count ≤ heldBy z (take (hub .translator .count) bs) + 1 = a in
+      absurd (omega (arith, e, two, a′, all-held (hub .translator) (valid .translator) z))
   no-nak z e (inr a) =
       let four : length bs ≡ 4 = valid .translator .four in
       let most : hub .translator .count ≤ 4 = valid .translator .most in

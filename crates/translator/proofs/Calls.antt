@@ -50,9 +50,9 @@ use Rattle.translator.specs.Answers.{isRefusal, startNumber, resultNumbe
 use Rattle.translator.specs.Valid.{ValidTranslator}
 use Rattle.translator.specs.Claims.{RefusedSame, LaunchesEarliest, Last, StoredLast, SameAgain, OldKept, AbandonedDropped, LaneLimit, LaneReset}
 use Rattle.translator.proofs.At.{inside, at-same, at-other, at-ranked, length-ranked, reranked-idle, at-without-lane}
-use Rattle.translator.proofs.Finding.{FindSays, find-says, ChosenSays, chosen-says, PermittedSays, permitted-says, First, EarliestSays, earliest-says}
+use Rattle.translator.proofs.Finding.{FindSays, find-says, ChosenSays, chosen-says, may-store, may-not-store, PermittedSays, permitted-says, First, EarliestSays, earliest-says}
 use Rattle.translator.proofs.Ranks.{rank-below, ranked-place}
-use Rattle.translator.proofs.Kept.{in-use, may-store, may-not-store, no-repeat}
+use Rattle.translator.proofs.Kept.{in-use, no-repeat}
 
 -- ---- a refused call leaves the translator as it was
 
@@ -430,7 +430,7 @@ limit-as t s l v = go (startFits s (length l)) (permitted (t .count) (keyOf s) (
     go : (x : Bool) (c : Choice) → PermittedSays (t .count) (keyOf s) (t .count) (t .buffers) c
         → LimitAs t s (cond x (startBy t s l c) (record { next = t; answer = start.Outside }) .answer)
     go true NoRoom r = tt
-    go true LimitReached r = (may-not-store t v (s .lane) (r .full), no-repeat t v (keyOf s) (r .wanted) (r .says) (r .unheld))
+    go true LimitReached r = (may-not-store t (s .lane) (r .full), no-repeat t v (keyOf s) (r .wanted) (r .says) (r .unheld))
     go true (Held n) r = tt
     go true (Reused n) r = tt
     go true (Took n) r = tt
@@ -441,15 +441,12 @@ at-limit : (t : Translator) (s : StartSplit) (l : List ℕ) → ValidTranslator 
 unfolding startSplit
 at-limit t s l v fits full none = rw fits (go (permitted (t .count) (keyOf s) (take (t .count) (t .buffers))) (permitted-says (t .count) (keyOf s) (t .count) (t .buffers)))
   where
-    past : heldBy (s .lane) (t .buffers) + 1 < t .count → ⊥
-    past may = omega (arith, may, full)
-
     go : (c : Choice) → PermittedSays (t .count) (keyOf s) (t .count) (t .buffers) c → startBy t s l c .answer ≡ start.Chosen LimitReached
-    go NoRoom r = absurd (past (may-store t v (s .lane) (r .may)))
+    go NoRoom r = absurd (may-store t (s .lane) (r .may) full)
     go LimitReached r = refl
     go (Held n) r = absurd (true≢false (sym (r .active) ∙ none (n .0) (r .found .passes)))
-    go (Reused n) r = absurd (past (may-store t v (s .lane) (r .may)))
-    go (Took n) r = absurd (past (may-store t v (s .lane) (r .may)))
+    go (Reused n) r = absurd (may-store t (s .lane) (r .may) full)
+    go (Took n) r = absurd (may-store t (s .lane) (r .may) full)
 
 repeated : (t : Translator) (s : StartSplit) (l : List ℕ) (n : BufferNumber) → ValidTranslator t → startFits s (length l) ≡ true
     → holds (keyOf s) (at (t .buffers) (n .0) .slot) ≡ true → isActive (at (t .buffers) (n .0) .slot) ≡ true → startSplit t s l .answer ≡ start.Chosen (Held n)

@@ -10,12 +10,14 @@ use native.Mathlib.Omega.{arith}
 use native.Mathlib.Nat.{not-suc-le-zero, le-of-suc-le-suc}
 use native.Mathlib.Decide.{ℕ-discrete}
 use borrow.Author.Tests.{eq-eqb, ltb-true, ltb-false}
+use Rattle.buffer.specs.declared.Lane.{Lane}
 use Rattle.buffer.specs.declared.Key.{Key}
 use Rattle.buffer.specs.declared.Slot.{Slot}
 use Rattle.buffer.specs.declared.Slot.the-variants.{Empty, Pending, Ready, Old}
 use Rattle.buffer.specs.declared.Buffer.{Buffer}
 use Rattle.buffer.specs.declared.BufferNumber.{BufferNumber}
 use Rattle.buffer.specs.Buffer.{vacant, isPending, isActive, isFree, holds}
+use Rattle.translator.specs.declared.Translator.{Translator}
 use Rattle.translator.specs.declared.Found.{Found}
 use Rattle.translator.specs.declared.Found.the-variants.{Nowhere, At}
 use Rattle.translator.specs.declared.Choice.{Choice}
@@ -25,7 +27,7 @@ use Rattle.translator.specs.declared.Earliest.the-variants.{NonePending,
 use Rattle.translator.specs.Translator.{at}
 use Rattle.translator.specs.Search.{later, find, chooseFree, chooseHeld, chosen, pass}
 use Rattle.translator.specs.Order.{atPlace, sooner, earliest}
-use Rattle.translator.specs.Limit.{heldBy, mayStore, limited, permitted}
+use Rattle.translator.specs.Limit.{heldBy, mayStore, limited, permitted, AtLimit}
 use Rattle.translator.proofs.At.{placed-pending, only-place}
 
 -- buffer i passes the test, and is one of the first m
@@ -91,7 +93,72 @@ chosen-says k m bs = go (find (holds k) (take m bs)) (find-says (holds k) m bs)
     go Nowhere u = free-case u (find isFree (take m bs)) (find-says isFree m bs)
     go (At n) r = held-case n r (isActive (at (take m bs) (n .0) .slot)) (ap (λ (b : Buffer). isActive (b .slot)) (sym (getD-take m bs (n .0) vacant (r .small))))
 
+-- ---- a search finds the lowest
+
+abbrev pub LowestSays : (Slot → Bool) → List Buffer → Found → Type 0
+LowestSays f bs Nowhere = Unit {0}
+LowestSays f bs (At n) = (i : ℕ) → i < n .0 → f (at bs i .slot) ≡ false
+
+pub find-lowest : (f : Slot → Bool) (m : ℕ) (bs : List Buffer) → LowestSays f bs (find f (take m bs))
+unfolding find
+find-lowest f zero bs = tt
+find-lowest f (suc m) [] = tt
+find-lowest f (suc m) (b ∷ bs) = go (f (b .slot)) refl (find f (take m bs)) (find-lowest f m bs)
+  where
+    go : (t : Bool) → f (b .slot) ≡ t → (r : Found) → LowestSays f bs r → LowestSays f (b ∷ bs) (cond t (At (record { 0 = 0 })) (later r))
+    go true e r s = λ i l. absurd (not-suc-le-zero l)
+    go false e Nowhere s = tt
+    go false e (At n) s = by
+      where
+        by : (i : ℕ) → i < suc (n .0) → f (at (b ∷ bs) i .slot) ≡ false
+        by zero l = e
+        by (suc i) l = s i (le-of-suc-le-suc l)
+
+-- a free buffer that is taken is the lowest
+abbrev pub TookLowest : List Buffer → Choice → Type 0
+TookLowest bs NoRoom = Unit {0}
+TookLowest bs LimitReached = Unit {0}
+TookLowest bs (Held n) = Unit {0}
+TookLowest bs (Reused n) = Unit {0}
+TookLowest bs (Took n) = (i : ℕ) → i < n .0 → isFree (at bs i .slot) ≡ false
+
+chosen-lowest : (k : Key) (m : ℕ) (bs : List Buffer) → TookLowest bs (chosen k (take m bs))
+unfolding chosen
+chosen-lowest k m bs = go (find (holds k) (take m bs))
+  where
+    free : (f : Found) → LowestSays isFree bs f → TookLowest bs (chooseFree f)
+    free Nowhere s = tt
+    free (At n) s = s
+
+    held : (n : BufferNumber) (x : Bool) → TookLowest bs (cond x (Held n) (Reused n))
+    held n true = tt
+    held n false = tt
+
+    go : (f : Found) → TookLowest bs (chooseHeld (take m bs) f)
+    go Nowhere = free (find isFree (take m bs)) (find-lowest isFree m bs)
+    go (At n) = held n (isActive (at (take m bs) (n .0) .slot))
+
+pub permitted-lowest : (b : ℕ) (k : Key) (m : ℕ) (bs : List Buffer) → TookLowest bs (permitted b k (take m bs))
+unfolding permitted
+permitted-lowest b k m bs = go (mayStore b (heldBy (k .lane) (take m bs))) (chosen k (take m bs)) (chosen-lowest k m bs)
+  where
+    go : (x : Bool) (c : Choice) → TookLowest bs c → TookLowest bs (limited x c)
+    go true c w = w
+    go false NoRoom w = tt
+    go false LimitReached w = tt
+    go false (Held n) w = tt
+    go false (Reused n) w = tt
+    go false (Took n) w = tt
+
 -- ---- the limit
+
+pub may-store : (t : Translator) (z : Lane) → mayStore (t .count) (heldBy z (take (t .count) (t .buffers))) ≡ true → ¬ (AtLimit z t)
+may-store t z e full =
+    let below : heldBy z (take (t .count) (t .buffers)) + 1 < t .count = ltb-true (heldBy z (take (t .count) (t .buffers)) + 1) (t .count) e in
+    absurd (omega (arith, full, below))
+
+pub may-not-store : (t : Translator) (z : Lane) → mayStore (t .count) (heldBy z (take (t .count) (t .buffers))) ≡ false → AtLimit z t
+may-not-store t z e = ltb-false (heldBy z (take (t .count) (t .buffers)) + 1) (t .count) e
 
 abbrev pub isHeld : Choice → Bool
 isHeld NoRoom = false

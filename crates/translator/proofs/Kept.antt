@@ -37,7 +37,7 @@ use Rattle.translator.specs.declared.StartAnswer.the-variants.{Outside}
 use Rattle.translator.specs.declared.DeliverAnswer.the-variants as answer
 use Rattle.translator.specs.Translator.{at, newTranslator}
 use Rattle.translator.specs.Search.{find}
-use Rattle.translator.specs.Limit.{heldBy, mayStore, permitted, AtLimit, NoRepeat}
+use Rattle.translator.specs.Limit.{heldBy, mayStore, permitted, NoRepeat}
 use Rattle.translator.specs.Order.{tally, bit, atPlace, waiting, before, reranked, rankedIn, ranked, earliest}
 use Rattle.translator.specs.StartSplit.{stored, startBy, startSplit}
 use Rattle.translator.specs.CompleteSplit.{completed, completeAt, completeSplit}
@@ -216,11 +216,8 @@ module _ (t : Translator) (v : ValidTranslator t) where
   pub all-held : (z : Lane) → heldBy z (take (t .count) (t .buffers)) ≡ heldBy z (t .buffers)
   all-held z = tally-take (activeIn z) refl (t .count) (t .buffers) (v .spare)
 
-  pub may-store : (z : Lane) → mayStore (t .count) (heldBy z (take (t .count) (t .buffers))) ≡ true → heldBy z (t .buffers) + 1 < t .count
-  may-store z e = omega (arith, ltb-true (heldBy z (take (t .count) (t .buffers)) + 1) (t .count) e, all-held z)
-
-  pub may-not-store : (z : Lane) → mayStore (t .count) (heldBy z (take (t .count) (t .buffers))) ≡ false → AtLimit z t
-  may-not-store z e = omega (arith, ltb-false (heldBy z (take (t .count) (t .buffers)) + 1) (t .count) e, all-held z)
+  held-below : (z : Lane) → mayStore (t .count) (heldBy z (take (t .count) (t .buffers))) ≡ true → heldBy z (t .buffers) + 1 < t .count
+  held-below z e = omega (arith, ltb-true (heldBy z (take (t .count) (t .buffers)) + 1) (t .count) e, all-held z)
 
   missed : (k : Key) → Miss (holds k) (t .count) (t .buffers) → (i : ℕ) → ¬ (holds k (at (t .buffers) i .slot) ≡ true)
   missed k m i e = true≢false (sym e ∙ m i (in-use t v (holds k) refl i e) (inside (holds k) refl (t .buffers) i e))
@@ -261,7 +258,7 @@ module _ (t : Translator) (v : ValidTranslator t) where
       here = subst (λ (m : ℕ). n .0 < m) (sym (length-ranked (t .buffers))) (omega (arith, used, v .most, v .four))
 
       below : heldBy (s .lane) (t .buffers) + 1 < t .count
-      below = may-store (s .lane) may
+      below = held-below (s .lane) may
 
       -- its own lane holds one more, the other no more
       few : (z : Lane) → heldBy z (set (ranked (t .buffers)) (n .0) b) < t .count

@@ -6,6 +6,7 @@ use mathlib.Core.Path.{_≡_}
 use mathlib.Core.Bool.{Bool, true, false}
 use mathlib.Core.List.{List}
 use lib.Dec.{ltb}
+use lib.ListN.{take}
 use Rattle.buffer.specs.declared.Lane.{Lane}
 use Rattle.buffer.specs.declared.Key.{Key}
 use Rattle.buffer.specs.declared.Slot.{Slot}
@@ -51,9 +52,9 @@ searching k c s n = record { choice = looked (c .choice) (standing k s) n; activ
 
 -- ---- the same of a translator, in the request's words
 
--- with one more pending or ready, the lane would hold more than B minus 1
+-- with one more of the B buffers pending or ready, the lane would hold more than B minus 1
 abbrev pub AtLimit : Lane → Translator → Type 0
-AtLimit l t = t .count ≤ heldBy l (t .buffers) + 1
+AtLimit l t = t .count ≤ heldBy l (take (t .count) (t .buffers)) + 1
 
 -- no buffer that has the key k is pending or ready
 abbrev pub NoRepeat : Key → Translator → Type 0

@@ -95,6 +95,9 @@ impl Chooser {
         if !hub.configured && self.random.one_in(3) {
             return self.request([0x00, 0x09, 1, 0, 0, 0, 0, 0]);
         }
+        if self.random.one_in(if hub.configured { 40 } else { 8 }) {
+            return self.odd_request(hub);
+        }
         let (ports, splits) = match self.style {
             Style::Mixed => (45, 45),
             Style::Ports => (80, 12),
@@ -323,6 +326,34 @@ impl Chooser {
         Call::Control { lane, setup, space: self.space() }
     }
 
+    /// A request of the table, each field of which is wrong as often as right.
+    fn odd_request(&mut self, hub: &Hub) -> Call {
+        let port = self.port(hub) as u16;
+        let (type_and_code, fields) = self.random.pick(&[
+            ([0x00, 0x09], [1, 0, 0]),
+            ([0x80, 0x08], [0, 0, 1]),
+            ([0xA0, 0x06], [0x2900, 0, 9]),
+            ([0xA0, 0x00], [0, 0, 4]),
+            ([0xA3, 0x00], [0, port, 4]),
+            ([0x20, 0x01], [1, 0, 0]),
+            ([0x23, 0x01], [16, port, 0]),
+            ([0x23, 0x03], [8, port, 0]),
+            ([0x23, 0x08], [0x9051, 1, 0]),
+            ([0x23, 0x09], [0, 1, 0]),
+        ]);
+        let mut setup = Vec::from(type_and_code);
+        for field in fields {
+            let given = match self.random.below(6) {
+                0 => self.random.next() as u16,
+                1 => field ^ 1 << self.random.below(16),
+                2 => field.wrapping_add(self.random.pick(&[1, u16::MAX])),
+                _ => field,
+            };
+            setup.extend_from_slice(&given.to_le_bytes());
+        }
+        Call::Control { lane: self.any_lane(), setup, space: self.space() }
+    }
+
     fn event(&mut self, event: u32, port: usize) -> Call {
         let event = self.number(|_| event, 7);
         let port = self.number(|_| port as u32, 7);
@@ -453,24 +484,7 @@ impl Chooser {
                 Buffer::Pending { start, payload, place: self.random.byte() }
             }
             status => {
-                let length = self.random.within(0..=64);
-                let bytes = self.random.bytes(length);
-                let outcome = match token {
-                    Token::In => self.random.pick(&[
-                        Outcome::Data(Toggle::Data0, bytes.clone()),
-                        Outcome::Data(Toggle::Data1, bytes),
-                        Outcome::Nak,
-                        Outcome::Stall,
-                        Outcome::Failure,
-                    ]),
-                    Token::Out => self.random.pick(&[
-                        Outcome::Ack,
-                        Outcome::Nak,
-                        Outcome::Stall,
-                        Outcome::Failure,
-                    ]),
-                    Token::Setup => self.random.pick(&[Outcome::Ack, Outcome::Failure]),
-                };
+                let outcome = self.any_outcome(token);
                 if status == 3 {
                     Buffer::Ready(start, outcome)
                 } else {
@@ -480,18 +494,31 @@ impl Chooser {
         }
     }
 
+    /// A result that suits the PID.
+    fn any_outcome(&mut self, token: Token) -> Outcome {
+        let length = self.random.within(0..=64);
+        let bytes = self.random.bytes(length);
+        let outcomes: &[Outcome] = match token {
+            Token::In => &[
+                Outcome::Data(Toggle::Data0, bytes.clone()),
+                Outcome::Data(Toggle::Data1, bytes),
+                Outcome::Nak,
+                Outcome::Stall,
+                Outcome::Failure,
+            ],
+            Token::Out => &[Outcome::Ack, Outcome::Nak, Outcome::Stall, Outcome::Failure],
+            Token::Setup => &[Outcome::Ack, Outcome::Failure],
+        };
+        self.random.pick(outcomes)
+    }
+
     /// The hub's written form with damage, and what was damaged.
     pub fn damaged(&mut self, hub: &Hub) -> (Vec<u8>, Damage) {
         let mut area = form::write(hub);
         let random = &mut self.random;
         match random.below(10) {
             0 => {
-                let length = match random.below(4) {
-                    0 => random.pick(&[0, 1, 7, 8, 9]),
-                    1 => area.len() - 1,
-                    2 => area.len() + random.pick(&[1, 4, 72]),
-                    _ => random.below(400),
-                };
+                let length = other_length(random, area.len());
                 let kept = length == area.len();
                 area.resize(length, 0);
                 (area, if kept { Damage::None } else { Damage::Length })
@@ -529,6 +556,16 @@ fn limited_key(hub: &Hub) -> Option<Key> {
     let mut old = translator.buffers.iter().filter(|buffer| buffer.is_free());
     let key = old.find_map(Buffer::key)?;
     (translator.held(key.lane) == translator.limit()).then_some(key)
+}
+
+/// A length for an area of this one, mostly another.
+fn other_length(random: &mut Random, length: usize) -> usize {
+    match random.below(4) {
+        0 => random.pick(&[0, 1, 7, 8, 9]),
+        1 => length - 1,
+        2 => length + random.pick(&[1, 4, 72]),
+        _ => random.below(400),
+    }
 }
 
 /// Changes one byte, mostly in the header, a port or the head of a buffer.

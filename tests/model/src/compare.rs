@@ -1,4 +1,5 @@
-//! Sessions of random calls, each made on the model and on the library.
+//! Sessions of random calls, each explained and made on the model and on the
+//! library.
 
 use std::fmt::Debug;
 
@@ -8,6 +9,7 @@ use crate::coverage::{Coverage, Step};
 use crate::form;
 use crate::hub::{Call, Hub};
 use crate::library::{Guarded, Lent, Library, NewNumbers, RawAnswer};
+use crate::reason::Reason;
 
 /// Calls in a session.
 const SESSION: u64 = 2000;
@@ -46,6 +48,25 @@ fn area_lengths(library: &dyn Library) -> Result<(), String> {
     Ok(())
 }
 
+/// What the model tells of a call.
+struct Expected {
+    reason: Reason,
+    answer: Answer,
+    area: Vec<u8>,
+}
+
+impl Expected {
+    /// Fails unless the reason is enough for the answer, and for what the call
+    /// left.
+    fn checked(self, call: &Call, left: bool) -> Result<Expected, String> {
+        if left && self.reason.gives(call, &self.answer) {
+            return Ok(self);
+        }
+        let Expected { reason, answer, .. } = self;
+        Err(format!("{call:?}: {reason:?} is not enough for {answer:?} and what it left"))
+    }
+}
+
 struct Run<'a> {
     library: &'a dyn Library,
     chooser: Chooser,
@@ -79,14 +100,13 @@ impl Run<'_> {
     /// A call of the session.
     fn call(&mut self, hub: &mut Hub, area: Guarded, call: &Call) -> Result<Guarded, String> {
         let before = hub.clone();
-        let answer = hub.step(call);
-        let expected = form::write(hub);
-        if form::read(&expected).is_none() {
+        let expected = self.expected(Some(hub), area.bytes(), call)?;
+        if form::read(&expected.area).is_none() {
             return Err(format!("{call:?}: the model reached a hub that it refuses: {hub:?}"));
         }
-        let area = self.compare(area, call, &answer, &expected)?;
-        let step = Step { before: &before, call, answer: &answer, after: hub };
-        self.coverage.session_call(&step);
+        let area = self.compare(area, call, &expected)?;
+        let Expected { reason, answer, .. } = &expected;
+        self.coverage.session_call(&Step { before: &before, call, reason, answer, after: hub });
         Ok(area)
     }
 
@@ -113,14 +133,29 @@ impl Run<'_> {
 
     /// Returns whether the area is taken.
     fn separate_call(&mut self, area: &[u8], call: &Call) -> Result<bool, String> {
-        let mut hub = form::read(area);
-        let (answer, expected) = match &mut hub {
-            Some(hub) => (hub.step(call), form::write(hub)),
-            None => (Answer::plain(answer::OUTSIDE), area.to_vec()),
+        let before = form::read(area);
+        let expected = self.expected(before.clone().as_mut(), area, call)?;
+        self.compare(Guarded::new(area), call, &expected)?;
+        self.coverage.separate_call(before.as_ref(), call, &expected.reason, &expected.answer);
+        Ok(before.is_some())
+    }
+
+    /// Makes the call on the model.  None is an area without a permitted hub.
+    fn expected(
+        &self,
+        hub: Option<&mut Hub>,
+        area: &[u8],
+        call: &Call,
+    ) -> Result<Expected, String> {
+        let reason = self.library.expected_reason(hub.as_deref(), call);
+        let Some(hub) = hub else {
+            let answer = Answer::plain(answer::OUTSIDE);
+            return Expected { reason, answer, area: area.to_vec() }.checked(call, true);
         };
-        self.compare(Guarded::new(area), call, &answer, &expected)?;
-        self.coverage.answer(call, &answer);
-        Ok(hub.is_some())
+        let before = hub.clone();
+        let answer = hub.step(call);
+        let left = reason.leaves(call, &before, hub);
+        Expected { reason, answer, area: form::write(hub) }.checked(call, left)
     }
 
     /// A new hub with odd numbers or in an area of the wrong length.
@@ -157,13 +192,12 @@ impl Run<'_> {
         Ok(hub)
     }
 
-    /// Makes the call on the library.  Returns the area.
+    /// Has the library explain the call and make it.  Returns the area.
     fn compare(
         &mut self,
         area: Guarded,
         call: &Call,
-        answer: &Answer,
-        expected_area: &[u8],
+        expected: &Expected,
     ) -> Result<Guarded, String> {
         self.made += 1;
         let input = match call {
@@ -174,10 +208,14 @@ impl Run<'_> {
         let reply = self.guarded(call.space().unwrap_or(0));
         let mut lent = Lent { area, reply, input: Guarded::new(input) };
         let before = lent.clone();
-        let given = self.library.call(call, &mut lent);
-        equal("answer", raw(answer), given)
-            .and_then(|()| equal("area", expected_area, lent.area.bytes()))
-            .and_then(|()| compare_lent(answer, &before, &lent))
+        let told = self.library.explain(call, &mut lent);
+        equal("reason", expected.reason.raw(), told)
+            .and_then(|()| equal("lent memory kept by the explaining", true, lent == before))
+            .and_then(|()| {
+                equal("answer", raw(&expected.answer), self.library.call(call, &mut lent))
+            })
+            .and_then(|()| equal("area", expected.area.as_slice(), lent.area.bytes()))
+            .and_then(|()| compare_lent(&expected.answer, &before, &lent))
             .map_err(|text| format!("{call:?} on {:?}\n{text}", before.area.bytes()))?;
         Ok(lent.area)
     }

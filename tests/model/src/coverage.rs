@@ -3,43 +3,23 @@
 
 use crate::answer::{self, Answer};
 use crate::damage::{Damage, FIELDS};
+use crate::explained::Explained;
 use crate::hub::{Call, Hub};
 use crate::lanes;
 use crate::port::{ClearFeature, Port, SetFeature, State};
+use crate::reason::Reason;
 use crate::request::Request;
 use crate::situations::SITUATIONS;
+use crate::table::{Table, Unreachable, ANSWERS};
 use crate::translator::{Buffer, Direction, Key, LowSide, Token};
 
 /// One call of a session: the hub before and after it.
 pub struct Step<'a> {
     pub before: &'a Hub,
     pub call: &'a Call,
+    pub reason: &'a Reason,
     pub answer: &'a Answer,
     pub after: &'a Hub,
-}
-
-/// What a table prints in a cell.
-enum Show {
-    /// The answers seen.
-    Answers,
-    /// The number of visits.
-    Visits,
-}
-
-struct Table {
-    title: &'static str,
-    rows: Vec<&'static str>,
-    columns: Vec<&'static str>,
-    show: Show,
-    /// Visits by answer, for each row and column.
-    cells: Vec<Vec<[u64; answer::COUNT]>>,
-    unreachable: Vec<Unreachable>,
-}
-
-struct Unreachable {
-    rows: &'static [&'static str],
-    columns: &'static [&'static str],
-    reason: &'static str,
 }
 
 pub struct Coverage {
@@ -56,9 +36,10 @@ pub struct Coverage {
     choices: Table,
     crowded: Table,
     situations: Table,
+    explained: Explained,
 }
 
-const PORT_COUNTS: [&str; 7] =
+pub const PORT_COUNTS: [&str; 7] =
     ["1 port", "2 ports", "3 ports", "4 ports", "5 ports", "6 ports", "7 ports"];
 const BUFFER_COUNTS: [&str; 3] = ["2 buf", "3 buf", "4 buf"];
 
@@ -92,7 +73,7 @@ const PORT_STATES: [&str; 19] = [
     "EnabF", "EnabH", "SuspL", "SuspF", "SuspH", "RsumL", "RsumF", "RsumH",
 ];
 
-const CALLS: [&str; 20] = [
+pub const CALLS: [&str; 20] = [
     "SetConfiguration",
     "GetConfiguration",
     "GetHubDescriptor",
@@ -115,7 +96,7 @@ const CALLS: [&str; 20] = [
     "new",
 ];
 
-const REQUESTS: &[&str] = &[
+pub const REQUESTS: &[&str] = &[
     "SetConfiguration",
     "GetConfiguration",
     "GetHubDescriptor",
@@ -187,8 +168,6 @@ const UNREACHABLE_CHOICES: [Unreachable; 2] = [
         reason: "below the limit a lane holds none, and the other at most one",
     },
 ];
-
-const ANSWERS: [&str; answer::COUNT] = ["0", "1", "2", "3", "4", "5", "6", "7", "8", "9"];
 
 const UNREACHABLE_ANSWERS: [Unreachable; 12] = [
     Unreachable {
@@ -344,11 +323,7 @@ impl Coverage {
             hubs: Table::new("Session calls by size of the hub", PORT_COUNTS, BUFFER_COUNTS)
                 .showing_visits(),
             ports: Table::new("Ports: answers by input and state", PORT_INPUTS, PORT_STATES),
-            translator: Table::new(
-                "Translator: answers by call and state of low side and buffers",
-                CALLS.into_iter().filter(|&call| call != "new"),
-                TRANSLATOR_STATES,
-            ),
+            translator: translator_table(),
             keys: Table::new(
                 "Keys: answers by call and the key's buffer",
                 KEY_CALLS.into_iter().flatten(),
@@ -369,20 +344,11 @@ impl Coverage {
                 REQUESTS.iter().copied(),
                 lanes::LANE_NUMBERS,
             ),
-            lanes: Table::new(
-                "Lanes: answers by call and state of the lane and the other (o-)",
-                lanes::LANE_CALLS,
-                lanes::LANE_STATES,
-            )
-            .without(UNREACHABLE_LANE_STATES),
-            choices: Table::new(
-                "Start-splits: answers by lane and choice",
-                lanes::START_SPLITS,
-                lanes::CHOICES,
-            )
-            .without(UNREACHABLE_CHOICES),
+            lanes: lane_table(),
+            choices: choice_table(),
             crowded: Table::new("Crowded areas", lanes::LANES, BUFFER_COUNTS).showing_visits(),
             situations: Table::new("Situations", situation_rows, ["visits"]).showing_visits(),
+            explained: Explained::new(),
         }
     }
 
@@ -390,7 +356,7 @@ impl Coverage {
         let number = step.answer.number;
         let (ports, buffers) = (step.before.ports.len(), step.before.translator.buffers.len());
         self.hubs.visit(PORT_COUNTS[ports - 1], BUFFER_COUNTS[buffers - 2], number);
-        self.answer(step.call, step.answer);
+        self.separate_call(Some(step.before), step.call, step.reason, step.answer);
         self.situations(step);
         if matches!(number, answer::OUTSIDE | answer::NO_SPACE) {
             return;
@@ -431,7 +397,19 @@ impl Coverage {
         }
     }
 
-    pub fn answer(&mut self, call: &Call, answer: &Answer) {
+    /// A call on the hub, or on an area that holds none.
+    pub fn separate_call(
+        &mut self,
+        hub: Option<&Hub>,
+        call: &Call,
+        reason: &Reason,
+        answer: &Answer,
+    ) {
+        self.answer(call, answer);
+        self.explained.count(hub, call, reason, answer.number);
+    }
+
+    fn answer(&mut self, call: &Call, answer: &Answer) {
         let (name, number) = (call_name(call), answer.number);
         self.answers.visit(name, ANSWERS[usize::from(number)], number);
         let Some((carrier, lane)) = lanes::carrier(call) else { return };
@@ -469,8 +447,8 @@ impl Coverage {
         self.damage.visit(UNREACHED, DAMAGE_ENDS[usize::from(taken)], 0);
     }
 
-    fn tables(&self) -> [&Table; 13] {
-        [
+    fn tables(&self) -> Vec<&Table> {
+        let tables = [
             &self.hubs,
             &self.ports,
             &self.translator,
@@ -484,7 +462,13 @@ impl Coverage {
             &self.choices,
             &self.crowded,
             &self.situations,
-        ]
+        ];
+        tables.into_iter().chain(self.explained.tables()).collect()
+    }
+
+    /// The calls that were explained.
+    pub fn explained(&self) -> u64 {
+        self.explained.calls()
     }
 
     pub fn print(&self) {
@@ -505,120 +489,26 @@ impl Coverage {
     }
 }
 
-impl Table {
-    fn new(
-        title: &'static str,
-        rows: impl IntoIterator<Item = &'static str>,
-        columns: impl IntoIterator<Item = &'static str>,
-    ) -> Table {
-        let rows: Vec<_> = rows.into_iter().collect();
-        let columns: Vec<_> = columns.into_iter().collect();
-        let cells = vec![vec![[0; answer::COUNT]; columns.len()]; rows.len()];
-        Table { title, rows, columns, show: Show::Answers, cells, unreachable: Vec::new() }
-    }
+fn translator_table() -> Table {
+    Table::new(
+        "Translator: answers by call and state of low side and buffers",
+        CALLS.into_iter().filter(|&call| call != "new"),
+        TRANSLATOR_STATES,
+    )
+}
 
-    fn showing_visits(self) -> Table {
-        Table { show: Show::Visits, ..self }
-    }
+fn lane_table() -> Table {
+    Table::new(
+        "Lanes: answers by call and state of the lane and the other (o-)",
+        lanes::LANE_CALLS,
+        lanes::LANE_STATES,
+    )
+    .without(UNREACHABLE_LANE_STATES)
+}
 
-    fn without(self, unreachable: impl IntoIterator<Item = Unreachable>) -> Table {
-        Table { unreachable: unreachable.into_iter().collect(), ..self }
-    }
-
-    fn row(&self, row: &str) -> usize {
-        self.rows.iter().position(|&name| name == row).expect("a row's name")
-    }
-
-    fn visit(&mut self, row: &str, column: &str, answer: u8) {
-        let column = self.columns.iter().position(|&name| name == column).expect("a column's name");
-        self.count(self.row(row), column, answer);
-    }
-
-    fn count(&mut self, row: usize, column: usize, answer: u8) {
-        self.cells[row][column][usize::from(answer)] += 1;
-    }
-
-    fn visits(&self, row: usize, column: usize) -> u64 {
-        self.cells[row][column].iter().sum()
-    }
-
-    fn is_unreachable(&self, row: usize, column: usize) -> bool {
-        self.unreachable.iter().any(|list| {
-            list.rows.contains(&self.rows[row]) && list.columns.contains(&self.columns[column])
-        })
-    }
-
-    fn places(&self) -> impl Iterator<Item = (usize, usize)> + '_ {
-        (0..self.rows.len())
-            .flat_map(|row| (0..self.columns.len()).map(move |column| (row, column)))
-    }
-
-    fn reachable(&self) -> impl Iterator<Item = (usize, usize)> + '_ {
-        self.places().filter(|&(row, column)| !self.is_unreachable(row, column))
-    }
-
-    fn gaps(&self) -> Vec<String> {
-        self.reachable()
-            .filter(|&(row, column)| self.visits(row, column) == 0)
-            .map(|(row, column)| self.describe("never visited", row, column))
-            .collect()
-    }
-
-    fn surprises(&self) -> Vec<String> {
-        self.places()
-            .filter(|&(row, column)| {
-                self.is_unreachable(row, column) && self.visits(row, column) > 0
-            })
-            .map(|(row, column)| self.describe("listed as unreachable, but visited", row, column))
-            .collect()
-    }
-
-    fn describe(&self, what: &str, row: usize, column: usize) -> String {
-        format!("{what}: {}: {} / {}", self.title, self.rows[row], self.columns[column])
-    }
-
-    fn text(&self, row: usize, column: usize) -> String {
-        let cell = &self.cells[row][column];
-        match self.show {
-            _ if self.is_unreachable(row, column) => "-".into(),
-            Show::Visits => self.visits(row, column).to_string(),
-            Show::Answers => {
-                (0..answer::COUNT).filter(|&number| cell[number] > 0).map(|n| ANSWERS[n]).collect()
-            }
-        }
-    }
-
-    fn print(&self) {
-        let width = match self.show {
-            Show::Visits => 8,
-            Show::Answers => self.columns.iter().map(|name| name.len()).max().unwrap_or(0),
-        };
-        let name_width = self.rows.iter().map(|name| name.len()).max().unwrap_or(0);
-        println!("{}", self.title);
-        print!("  {:name_width$}", "");
-        for column in &self.columns {
-            print!(" {column:>width$}");
-        }
-        println!();
-        for (row, name) in self.rows.iter().enumerate() {
-            print!("  {name:name_width$}");
-            for column in 0..self.columns.len() {
-                print!(" {:>width$}", self.text(row, column));
-            }
-            println!();
-        }
-        let fewest = self.reachable().map(|(row, column)| self.visits(row, column)).min();
-        println!("  fewest visits to a reachable cell: {}", fewest.unwrap_or(0));
-        for list in &self.unreachable {
-            println!(
-                "  unreachable: {} / {}: {}",
-                list.rows.join(", "),
-                list.columns.join(", "),
-                list.reason
-            );
-        }
-        println!();
-    }
+fn choice_table() -> Table {
+    Table::new("Start-splits: answers by lane and choice", lanes::START_SPLITS, lanes::CHOICES)
+        .without(UNREACHABLE_CHOICES)
 }
 
 /// The eight setup bytes of a control request.
@@ -634,7 +524,7 @@ pub fn request(call: &Call) -> Option<Request> {
     Request::read(lanes::carried(call)?, setup(call)?)
 }
 
-fn call_name(call: &Call) -> &'static str {
+pub fn call_name(call: &Call) -> &'static str {
     match call {
         Call::Control { .. } => match setup(call).map(|setup| (setup[0], setup[1])) {
             Some((0x00, 0x09)) => "SetConfiguration",

@@ -323,7 +323,7 @@ pub fn lane_given(call: &Call, lent: &mut Lent) -> RawAnswer {
 }
 
 /// The call with the lane that `change` makes of its own.
-fn with_lane(call: &Call, change: impl Fn(u32) -> u32) -> Call {
+pub fn with_lane(call: &Call, change: impl Fn(u32) -> u32) -> Call {
     let mut call = call.clone();
     match &mut call {
         Call::Control { lane, .. } | Call::Poll { lane, .. } | Call::CompleteSplit { lane, .. } => {

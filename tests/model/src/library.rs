@@ -2,7 +2,8 @@
 
 use std::ptr;
 
-use crate::hub::Call;
+use crate::hub::{Call, Hub, StartNumbers};
+use crate::reason::Reason;
 
 /// `grimholdi_answer`.
 #[repr(C)]
@@ -20,6 +21,15 @@ pub struct RawAnswer {
     pub toggle: u8,
 }
 
+/// `grimholdi_reason`.
+#[repr(C)]
+#[derive(Clone, Copy, Debug, PartialEq, Eq)]
+pub struct RawReason {
+    pub kind: u8,
+    pub value: u8,
+    pub changes: [u8; 7],
+}
+
 #[rustfmt::skip]
 extern "C" {
     fn grimholdi_area_length(ports: u32, buffers: u32) -> usize;
@@ -33,12 +43,21 @@ extern "C" {
     fn grimholdi_line_event(area: *mut u8, area_len: usize, event: u32, port: u32) -> RawAnswer;
     fn grimholdi_tick(area: *mut u8, area_len: usize) -> RawAnswer;
     fn grimholdi_bus_reset(area: *mut u8, area_len: usize) -> RawAnswer;
+    fn grimholdi_why_control(area: *const u8, area_len: usize, lane: u32, setup: *const u8, setup_len: usize, reply_len: usize) -> RawReason;
+    fn grimholdi_why_poll(area: *const u8, area_len: usize, lane: u32, reply_len: usize) -> RawReason;
+    fn grimholdi_why_start_split(area: *const u8, area_len: usize, lane: u32, pid: u32, transfer: u32, low_speed: u32, toggle: u32, address: u32, endpoint: u32, payload: *const u8, payload_len: usize) -> RawReason;
+    fn grimholdi_why_complete_split(area: *const u8, area_len: usize, lane: u32, address: u32, endpoint: u32, direction: u32, reply_len: usize) -> RawReason;
+    fn grimholdi_why_launch(area: *const u8, area_len: usize, reply_len: usize) -> RawReason;
+    fn grimholdi_why_deliver(area: *const u8, area_len: usize, result: u32, payload: *const u8, payload_len: usize) -> RawReason;
+    fn grimholdi_why_line_event(area: *const u8, area_len: usize, event: u32, port: u32) -> RawReason;
+    fn grimholdi_why_tick(area: *const u8, area_len: usize) -> RawReason;
+    fn grimholdi_why_bus_reset(area: *const u8, area_len: usize) -> RawReason;
 }
 
 const GUARD: [u8; 16] = *b"\xA5\x5A\xC3\x3C\x96\x69\xF0\x0F\x1E\xE1\x2D\xD2\x4B\xB4\x87\x78";
 
 /// Bytes to lend, with guard bytes on both sides.
-#[derive(Clone)]
+#[derive(Clone, PartialEq)]
 pub struct Guarded {
     memory: Vec<u8>,
 }
@@ -76,7 +95,7 @@ impl Guarded {
 }
 
 /// All memory that a call is lent.  `input` holds setup bytes or a payload.
-#[derive(Clone)]
+#[derive(Clone, PartialEq)]
 pub struct Lent {
     pub area: Guarded,
     pub reply: Guarded,
@@ -93,17 +112,8 @@ pub struct NewNumbers {
     pub removable: u32,
 }
 
+/// The library as it was linked, but for what a mistake replaces.
 pub trait Library {
-    fn area_length(&self, ports: u32, buffers: u32) -> usize;
-    fn new_hub(&self, area: &mut Guarded, numbers: NewNumbers) -> RawAnswer;
-    /// Setup bytes and payloads are taken from `lent`, not from `call`.
-    fn call(&self, call: &Call, lent: &mut Lent) -> RawAnswer;
-}
-
-/// The library as it was linked.
-pub struct Linked;
-
-impl Library for Linked {
     fn area_length(&self, ports: u32, buffers: u32) -> usize {
         unsafe { grimholdi_area_length(ports, buffers) }
     }
@@ -114,6 +124,7 @@ impl Library for Linked {
         unsafe { grimholdi_new(area, area_len, ports, buffers, power_good, current, removable) }
     }
 
+    /// Setup bytes and payloads are taken from `lent`, not from `call`.
     fn call(&self, call: &Call, lent: &mut Lent) -> RawAnswer {
         let (area, area_len) = lent.area.lend();
         let (reply, reply_len) = lent.reply.lend();
@@ -124,19 +135,9 @@ impl Library for Linked {
                     grimholdi_control(area, area_len, lane, input, input_len, reply, reply_len)
                 }
                 Call::Poll { lane, .. } => grimholdi_poll(area, area_len, lane, reply, reply_len),
-                Call::StartSplit { ref numbers, .. } => grimholdi_start_split(
-                    area,
-                    area_len,
-                    numbers.lane,
-                    numbers.pid,
-                    numbers.transfer,
-                    numbers.low_speed,
-                    numbers.toggle,
-                    numbers.address,
-                    numbers.endpoint,
-                    input,
-                    input_len,
-                ),
+                Call::StartSplit { ref numbers, .. } => {
+                    start_split((area, area_len), numbers, (input, input_len))
+                }
                 Call::CompleteSplit { lane, address, endpoint, direction, .. } => {
                     grimholdi_complete_split(
                         area, area_len, lane, address, endpoint, direction, reply, reply_len,
@@ -154,4 +155,87 @@ impl Library for Linked {
             }
         }
     }
+
+    /// Explains the call, without making it.  Of the reply space only the
+    /// length is given.
+    fn explain(&self, call: &Call, lent: &mut Lent) -> RawReason {
+        let (area, area_len) = lent.area.lend();
+        let reply_len = lent.reply.bytes().len();
+        let (input, input_len) = lent.input.lend();
+        unsafe {
+            match *call {
+                Call::Control { lane, .. } => {
+                    grimholdi_why_control(area, area_len, lane, input, input_len, reply_len)
+                }
+                Call::Poll { lane, .. } => grimholdi_why_poll(area, area_len, lane, reply_len),
+                Call::StartSplit { ref numbers, .. } => {
+                    explain_start_split((area, area_len), numbers, (input, input_len))
+                }
+                Call::CompleteSplit { lane, address, endpoint, direction, .. } => {
+                    grimholdi_why_complete_split(
+                        area, area_len, lane, address, endpoint, direction, reply_len,
+                    )
+                }
+                Call::Launch { .. } => grimholdi_why_launch(area, area_len, reply_len),
+                Call::Deliver { result, .. } => {
+                    grimholdi_why_deliver(area, area_len, result, input, input_len)
+                }
+                Call::LineEvent { event, port } => {
+                    grimholdi_why_line_event(area, area_len, event, port)
+                }
+                Call::Tick => grimholdi_why_tick(area, area_len),
+                Call::BusReset => grimholdi_why_bus_reset(area, area_len),
+            }
+        }
+    }
+
+    /// The reason that the model gives.  None is an area without a permitted
+    /// hub.
+    fn expected_reason(&self, hub: Option<&Hub>, call: &Call) -> Reason {
+        Reason::of(hub, call)
+    }
+}
+
+pub struct Linked;
+
+impl Library for Linked {}
+
+unsafe fn start_split(
+    (area, area_len): (*mut u8, usize),
+    numbers: &StartNumbers,
+    (payload, payload_len): (*const u8, usize),
+) -> RawAnswer {
+    grimholdi_start_split(
+        area,
+        area_len,
+        numbers.lane,
+        numbers.pid,
+        numbers.transfer,
+        numbers.low_speed,
+        numbers.toggle,
+        numbers.address,
+        numbers.endpoint,
+        payload,
+        payload_len,
+    )
+}
+
+unsafe fn explain_start_split(
+    (area, area_len): (*const u8, usize),
+    numbers: &StartNumbers,
+    (payload, payload_len): (*const u8, usize),
+) -> RawReason {
+    grimholdi_why_start_split(
+        area,
+        area_len,
+        numbers.lane,
+        numbers.pid,
+        numbers.transfer,
+        numbers.low_speed,
+        numbers.toggle,
+        numbers.address,
+        numbers.endpoint,
+        payload,
+        payload_len,
+    )
 }

@@ -1,5 +1,6 @@
-//! The hub rules of document 01, with the corrections of C-12 and the lanes of
-//! C-18, as a model of their own, compared with the C library over random calls.
+//! The hub rules of document 01, with the corrections of C-12, the explained
+//! calls of C-15 and the lanes of C-18, as a model of their own, compared with
+//! the C library over random calls.
 //!
 //! Usage: model [--calls N] [--seed S] [--partial] [--self-check]
 //!
@@ -13,6 +14,7 @@ mod choose;
 mod compare;
 mod coverage;
 mod damage;
+mod explained;
 mod form;
 mod hub;
 mod lane_mistakes;
@@ -21,8 +23,11 @@ mod library;
 mod mistakes;
 mod port;
 mod random;
+mod reason;
+mod reason_mistakes;
 mod request;
 mod situations;
+mod table;
 mod translator;
 
 use std::env;
@@ -30,7 +35,6 @@ use std::process::ExitCode;
 
 use coverage::Coverage;
 use library::Linked;
-use mistakes::MISTAKES;
 
 const USAGE: &str = "usage: model [--calls N] [--seed S] [--partial] [--self-check]";
 
@@ -85,24 +89,26 @@ fn comparison(options: &Options) -> bool {
     let passed = faults.is_empty() || options.partial;
     let (reachable, visited) = coverage.cells();
     println!(
-        "model: {}, {calls} calls without a difference, {visited} of {reachable} reachable cells \
-         visited, seed {seed}",
-        if passed { "passed" } else { "FAILED" }
+        "model: {}, {calls} calls without a difference, {} of them explained, {visited} of \
+         {reachable} reachable cells visited, seed {seed}",
+        if passed { "passed" } else { "FAILED" },
+        coverage.explained()
     );
     passed
 }
 
 fn self_check(options: &Options) -> bool {
-    let widest = MISTAKES.iter().map(|(name, _)| name.len()).max().unwrap_or(0);
+    let mistakes: Vec<_> = mistakes::all().chain(reason_mistakes::all()).collect();
+    let widest = mistakes.iter().map(|(name, _)| name.len()).max().unwrap_or(0);
     let mut found = 0;
-    for (name, library) in MISTAKES {
-        let result = compare::run(library, options.calls, options.seed, &mut Coverage::new());
+    for (name, library) in &mistakes {
+        let result = compare::run(*library, options.calls, options.seed, &mut Coverage::new());
         let place = result.err().and_then(|text| text.split(':').next().map(String::from));
         found += place.iter().count();
         println!("{name:widest$}  {}", place.unwrap_or("NOT FOUND".into()));
     }
-    let passed = found == MISTAKES.len();
+    let passed = found == mistakes.len();
     let state = if passed { "passed" } else { "FAILED" };
-    println!("model: self-check {state}, {found} of {} mistakes found", MISTAKES.len());
+    println!("model: self-check {state}, {found} of {} mistakes found", mistakes.len());
     passed
 }

@@ -4,14 +4,14 @@ use crate::answer;
 use crate::form;
 use crate::hub::Call;
 use crate::lane_mistakes as lanes;
-use crate::library::{Guarded, Lent, Library, Linked, NewNumbers, RawAnswer};
+use crate::library::{Lent, Library, Linked, RawAnswer};
 
 /// Makes the call on the linked library, with the mistake.
 type Wrong = fn(&Call, &mut Lent) -> RawAnswer;
 
 pub struct Mistaken(Wrong);
 
-pub const MISTAKES: &[(&str, Mistaken)] = &[
+const MISTAKES: &[(&str, Mistaken)] = &[
     ("keys matched without direction", Mistaken(without_direction)),
     ("a result longer than delivered", Mistaken(older_tail)),
     ("late result given to a refilled buffer", Mistaken(late_result)),
@@ -61,15 +61,11 @@ pub const MISTAKES: &[(&str, Mistaken)] = &[
     ("lane of an empty buffer ignored", Mistaken(lanes::empty_lane_ignored)),
 ];
 
+pub fn all() -> impl Iterator<Item = (&'static str, &'static dyn Library)> {
+    MISTAKES.iter().map(|(name, library)| (*name, library as &dyn Library))
+}
+
 impl Library for Mistaken {
-    fn area_length(&self, ports: u32, buffers: u32) -> usize {
-        Linked.area_length(ports, buffers)
-    }
-
-    fn new_hub(&self, area: &mut Guarded, numbers: NewNumbers) -> RawAnswer {
-        Linked.new_hub(area, numbers)
-    }
-
     fn call(&self, call: &Call, lent: &mut Lent) -> RawAnswer {
         (self.0)(call, lent)
     }

@@ -5,6 +5,7 @@ use crate::coverage::{request, setup, Step};
 use crate::hub::{Call, Hub};
 use crate::lanes;
 use crate::port::{Change, ClearFeature, Event, Port, SetFeature, Speed, State};
+use crate::reason::{self, Reason, Wrong};
 use crate::request::Request;
 use crate::translator::{Buffer, Direction, Key, Lane, LowSide, Outcome, Token, Translator};
 
@@ -237,6 +238,41 @@ pub const SITUATIONS: &[(&str, Met)] = &[
     ("no lane, length of the setup bytes wrong", |step| {
         no_lane(step) && matches!(step.call, Call::Control { setup, .. } if setup.len() != 8)
     }),
+    ("held by a buffer above a free one", |step| {
+        matches!(*step.reason, Reason::Held(number)
+            if translator(step).buffers[..number].iter().any(Buffer::is_free))
+    }),
+    ("took free, the other lane has the key", |step| {
+        matches!(step.reason, Reason::TookFree(_)) && twin_held(step)
+    }),
+    ("limit, the other lane has the key", |step| *step.reason == Reason::Limit && twin_held(step)),
+    ("no room, the other lane has the key", |step| {
+        *step.reason == Reason::NoRoom && twin_held(step)
+    }),
+    ("silent poll, change bits set", |step| {
+        matches!(step.call, Call::Poll { .. })
+            && *step.reason == Reason::Number(answer::SILENT)
+            && step.before.ports.iter().any(has_change)
+    }),
+    ("value, index and length wrong", |step| {
+        wrong_things(step) == [Wrong::Value, Wrong::Index, Wrong::Length]
+    }),
+    ("hub unconfigured, value, index and length wrong", |step| {
+        wrong_things(step) == [Wrong::Unconfigured, Wrong::Value, Wrong::Index, Wrong::Length]
+    }),
+    ("reply space too short, setup fields wrong", |step| {
+        *step.reason == Reason::Number(answer::NO_SPACE)
+            && setup(step.call).is_some_and(|setup| Request::read(Lane::Zero, setup).is_none())
+    }),
+    ("port right but for the index's high byte", |step| {
+        let right = |setup: &[u8; 8]| {
+            matches!(setup[..2], [0xA3, 0x00] | [0x23, 0x01 | 0x03])
+                && (1..=step.before.ports.len()).contains(&setup[4].into())
+        };
+        wrong_things(step) == [Wrong::Index] && setup(step.call).is_some_and(right)
+    }),
+    ("ClearTTBuffer of another transfer type", |step| clear_value(step, 0x0800)),
+    ("ClearTTBuffer with a bit that stands for nothing", |step| clear_value(step, 0x6000)),
 ];
 
 fn translator<'a>(step: &Step<'a>) -> &'a Translator {
@@ -374,6 +410,29 @@ fn completed<'a>(step: &Step<'a>) -> Option<(Key, &'a Outcome)> {
     }
     let key = Key::from_numbers(*lane, *address, *endpoint, *direction)?;
     Some((key, held(step, key)?.outcome()?))
+}
+
+/// The other lane's buffer has the start-split's key.
+fn twin_held(step: &Step) -> bool {
+    start(step).is_some_and(|(_, key)| held(step, key.twin()).is_some())
+}
+
+/// All that is wrong with a refused request.
+fn wrong_things(step: &Step) -> Vec<Wrong> {
+    match (step.reason, setup(step.call)) {
+        (Reason::Wrong(_), Some(setup)) => reason::wrong_things(step.before, setup),
+        _ => Vec::new(),
+    }
+}
+
+/// ClearTTBuffer is refused for its value alone, of whose wrong bits these are
+/// the only ones set.
+fn clear_value(step: &Step, bits: u16) -> bool {
+    let set = |setup: &[u8; 8]| u16::from_le_bytes([setup[2], setup[3]]) & 0x6800;
+    wrong_things(step) == [Wrong::Value]
+        && setup(step.call).is_some_and(|setup| {
+            setup[..2] == [0x23, 0x08] && set(setup) & bits != 0 && set(setup) & !bits == 0
+        })
 }
 
 fn unsuited(step: &Step, token: Token) -> bool {

@@ -29,13 +29,13 @@ high-speed-requires c κs = search needs
 byte-of-requires-2 : tie.Need-byte-of-requires-2
 byte-of-requires-2 c κs = search needs
 
-byte-of-requires-3 : tie.Need-byte-of-requires-3
-byte-of-requires-3 c κs = search needs
+byte-requires : tie.Need-byte-requires
+byte-requires c κs = search needs
 
 returns : tie.Need-returns
 returns c =
     rw (
-      c .byte-of3 .ensures,
+      c .byte .ensures,
       c .before .byte-of2 .ensures,
       c .before .before .high-speed .ensures,
       c .before .before .before .low-speed .ensures,
@@ -60,5 +60,5 @@ status-spec =
     low-speed-requires
     high-speed-requires
     byte-of-requires-2
-    byte-of-requires-3
+    byte-requires
     returns)

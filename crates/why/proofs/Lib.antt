@@ -1,0 +1,10 @@
+pub mod Passing
+pub mod Starts
+pub mod Requests
+pub mod Polls
+pub mod Ways
+pub mod Claimed
+pub mod ExplainedRuns
+pub mod ReadBack
+pub mod Cases
+pub mod Mistaken

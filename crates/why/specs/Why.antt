@@ -1,0 +1,76 @@
+-- Which reason the tool gives: what its code computes. A reader need not believe this: `TrueOf` (Said.antt) says when a reason is true, and
+-- the claims say that this one is, that no other is, and that it is enough.
+use Prim.Native.Nat.{ℕ}
+use mathlib.Core.Bool.{Bool, cond}
+use mathlib.Core.List.{List}
+use lib.Dec.{eqb}
+use lib.ListN.{getD}
+use Rattle.port.specs.declared.Port.{Port}
+use Rattle.port.specs.Reaction.{newPort}
+use Rattle.translator.specs.declared.Choice.{Choice}
+use Rattle.translator.specs.declared.Choice.the-variants as choice
+use Rattle.translator.specs.declared.StartAnswer.{StartAnswer}
+use Rattle.translator.specs.declared.StartAnswer.the-variants.{Outside, Chosen}
+use Rattle.translator.specs.StartSplit.{startSplit}
+use Rattle.numbers.specs.Split.{splitFrom}
+use Rattle.hub.specs.declared.Hub.{Hub}
+use Rattle.hub.specs.Call.{Call, Control, Poll, Start, Complete, Launch, Deliver, Event, Tick, BusReset}
+use Rattle.hub.specs.Step.{step}
+use Rattle.why.specs.declared.RequestFault.the-variants as wrong
+use Rattle.why.specs.declared.PortChanges.{PortChanges}
+use Rattle.why.specs.declared.Reason.{Reason}
+use Rattle.why.specs.declared.Reason.the-variants.{Nothing, Number, HeldBy, Reused, TookFree, LimitReached, NoRoom, Changed, Wrong}
+use Rattle.why.specs.Said.{right, isNumber}
+
+unfoldable pub numbered : ℕ → Reason → Reason
+numbered n r = cond (isNumber n) (Number n) r
+
+abbrev pub choiceReason : Choice → Reason
+choiceReason choice.NoRoom = NoRoom
+choiceReason choice.LimitReached = LimitReached
+choiceReason (choice.Held n) = HeldBy n
+choiceReason (choice.Reused n) = Reused n
+choiceReason (choice.Took n) = TookFree n
+
+abbrev pub startReason : StartAnswer → Reason
+startReason Outside = Nothing
+startReason (Chosen c) = choiceReason c
+
+-- the change bits of the ports
+unfoldable pub changesByPort : List Port → PortChanges
+changesByPort ps =
+    record {
+      port1 = getD ps 0 newPort .changes;
+      port2 = getD ps 1 newPort .changes;
+      port3 = getD ps 2 newPort .changes;
+      port4 = getD ps 3 newPort .changes;
+      port5 = getD ps 4 newPort .changes;
+      port6 = getD ps 5 newPort .changes;
+      port7 = getD ps 6 newPort .changes;
+    }
+
+unfoldable pub pollReason : ℕ → PortChanges → Reason
+pollReason n f = cond (eqb n 1) (Changed f) Nothing
+
+-- tests in the order type and code, hub unconfigured, value, index, length
+abbrev pub firstWrong : Bool → Bool → Bool → Bool → Bool → Reason
+firstWrong n s v i l =
+    cond n (cond s (cond v (cond i (cond l Nothing (Wrong wrong.Length)) (Wrong wrong.Index)) (Wrong wrong.Value)) (Wrong wrong.Unconfigured)) (Wrong wrong.TypeOrCode)
+
+unfoldable pub requestReason : Hub → List ℕ → Reason
+requestReason h s = firstWrong (right wrong.TypeOrCode h s) (right wrong.Unconfigured h s) (right wrong.Value h s) (right wrong.Index h s) (right wrong.Length h s)
+
+-- of a call to which none of 5 to 8 applies
+unfoldable pub ruleReason : Hub → Call → Reason
+ruleReason h (Control z s room) = requestReason h s
+ruleReason h (Poll z room) = pollReason (step h (Poll z room) .answer .number) (changesByPort (h .ports))
+ruleReason h (Start z p t f g a e l) = startReason (startSplit (h .translator) (splitFrom z p t f g a e) l .answer)
+ruleReason h (Complete z a e d room) = Nothing
+ruleReason h (Launch room) = Nothing
+ruleReason h (Deliver r l) = Nothing
+ruleReason h (Event e n) = Nothing
+ruleReason h Tick = Nothing
+ruleReason h BusReset = Nothing
+
+unfoldable pub whyOf : Hub → Call → Reason
+whyOf h c = numbered (step h c .answer .number) (ruleReason h c)

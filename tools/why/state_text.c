@@ -1,0 +1,103 @@
+#include "state_text.h"
+
+#include <stdio.h>
+
+void print_port_state(const port_view *port)
+{
+    printf("%s", name_of(state_names, port->state));
+    if (port->state >= STATE_DISABLED)
+        printf(", %s speed", name_of(port_speed_names, port->speed));
+}
+
+void print_changes(unsigned changes)
+{
+    const named *change;
+    const char *before = "";
+
+    for (change = change_names; change->name != NULL; change++)
+        if (changes & change->number) {
+            printf("%s%s", before, change->name);
+            before = ", ";
+        }
+}
+
+void print_key(unsigned address, unsigned endpoint, unsigned direction)
+{
+    printf("(%u,%u %s)", address, endpoint,
+           name_of(direction_names, direction));
+}
+
+void print_low_side(const area_view *view)
+{
+    switch (view->low_side) {
+    case LOW_SIDE_FREE:
+        printf("the low side is free");
+        break;
+    case LOW_SIDE_RUNNING:
+        printf("the low side is occupied by buffer %u", view->running);
+        break;
+    default:
+        printf("the low side is occupied by an emptied transaction");
+        break;
+    }
+}
+
+void print_count(const char *what, size_t count)
+{
+    if (count == 0)
+        printf("no %s", what);
+    else
+        printf("%s of %u byte%s", what, (unsigned)count,
+               count == 1 ? "" : "s");
+}
+
+static void print_port(const port_view *port, unsigned number)
+{
+    printf("port %u: ", number);
+    print_port_state(port);
+    if (port->state == STATE_RESETTING || port->state == STATE_RESUMING)
+        printf(", %u tick%s", port->ticks, port->ticks == 1 ? "" : "s");
+    if (port->over_current)
+        printf(", over-current");
+    if (port->changes != 0) {
+        printf(", ");
+        print_changes(port->changes);
+    }
+    printf("\n");
+}
+
+static void print_buffer(const buffer_view *buffer, unsigned number)
+{
+    printf("buffer %u: %s", number, name_of(status_names, buffer->status));
+    if (buffer->status == STATUS_EMPTY) {
+        printf("\n");
+        return;
+    }
+    if (buffer->status == STATUS_PENDING)
+        printf(" at place %u", buffer->place);
+    else
+        printf(" with %s", name_of(result_names, buffer->result));
+    printf(", lane %u ", buffer->lane);
+    print_key(buffer->address, buffer->endpoint, buffer->direction);
+    printf(", %s %s, %s speed, toggle %u, ",
+           name_of(pid_names, buffer->pid),
+           name_of(transfer_names, buffer->transfer),
+           name_of(speed_names, buffer->low_speed), buffer->toggle);
+    print_count("payload", buffer->payload_length);
+    printf("\n");
+}
+
+void print_state(const area_view *view)
+{
+    unsigned i;
+
+    printf("hub: %u port%s, %u buffers, %s, ", view->ports,
+           view->ports == 1 ? "" : "s", view->buffers,
+           view->configured ? "configured" : "unconfigured");
+    print_low_side(view);
+    printf("\n");
+    for (i = 1; i <= view->ports; i++)
+        print_port(&view->port[i - 1], i);
+    for (i = 0; i < view->buffers; i++)
+        print_buffer(&view->buffer[i], i);
+}
