@@ -27,7 +27,7 @@ use Rattle.area.specs.declared.Read.{Read}
 use Rattle.area.specs.Read.{readOf}
 use Rattle.area.proofs.Exact.{area-exact}
 use Rattle.grimholdi.specs.Entry.{Gave}
-use Rattle.grimholdi.specs.Runs.{Asked, callOf, gives, seen, entries}
+use Rattle.grimholdi.specs.Runs.{Asked, callOf, gives, seen}
 use Rattle.grimholdi_why.specs.Explained.{entryReason, explains, explainedEntries, EntryReasons}
 use Rattle.grimholdi.proofs.Carried.{gives-taken, answer-same, next-same, new-hub, filled-is, entry-claims}
 

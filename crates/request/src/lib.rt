@@ -224,7 +224,7 @@ impl Kind {
         }
     }
 
-    pub fn value_fits(self, value: u16) -> bool
+    fn value_fits(self, value: u16) -> bool
         ensures { λ r. ⌜ r ≡ valueFits self value ⌝ }
     {
         match self {
@@ -242,7 +242,7 @@ impl Kind {
         }
     }
 
-    pub fn index_fits(self, ports: u8, index: u16) -> bool
+    fn index_fits(self, ports: u8, index: u16) -> bool
         ensures { λ r. ⌜ r ≡ indexFits ports self index ⌝ }
     {
         match self {
@@ -260,7 +260,7 @@ impl Kind {
         }
     }
 
-    pub fn length_fits(self, length: u16) -> bool
+    fn length_fits(self, length: u16) -> bool
         ensures { λ r. ⌜ r ≡ lengthFits self length ⌝ }
     {
         match self {

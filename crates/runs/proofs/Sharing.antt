@@ -13,7 +13,7 @@ use Rattle.buffer.specs.declared.Slot.{Slot}
 use Rattle.buffer.specs.declared.Slot.the-variants.{Empty, Pending, Ready, Old}
 use Rattle.buffer.specs.declared.Buffer.{Buffer}
 use Rattle.buffer.specs.Key.{sameLane}
-use Rattle.buffer.specs.Buffer.{isActive, isFree, holds, activeIn}
+use Rattle.buffer.specs.Buffer.{isActive, isFree, activeIn}
 use Rattle.translator.specs.declared.Translator.{Translator}
 use Rattle.translator.specs.Translator.{at}
 use Rattle.translator.specs.Order.{bit, tally}

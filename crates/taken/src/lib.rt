@@ -4,7 +4,7 @@ ghost use mathlib.Core.Bool.{_&&_, _||_, not, cond};
 ghost use Prim.Native.Nat.{_+_, _*_, _^_, _≤_};
 ghost use lib.Dec.{eqb, leb, ltb};
 ghost use lib.ListN.{length, getD, take, drop};
-ghost use Rattle.buffer.specs.Key.{directionOf, keyOf, sameLane, sameDirection, sameKey};
+ghost use Rattle.buffer.specs.Key.{directionOf, keyOf, sameDirection, sameKey};
 ghost use Rattle.buffer.specs.Lengths.{typeFits, startLength, resultLength, suits};
 ghost use Rattle.numbers.specs.Named.{isPid, pidFrom, isType, typeFrom, isResult, resultFrom};
 ghost use Rattle.hub.specs.Hub.{newFits};

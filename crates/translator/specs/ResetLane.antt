@@ -1,6 +1,6 @@
 -- ResetTT from a lane. A reader must believe: it empties that lane's buffers, old ones too, and no other; a transaction of the lane that
 -- runs is abandoned as by a clear.
-use mathlib.Core.Bool.{Bool, cond}
+use mathlib.Core.Bool.{cond}
 use mathlib.Core.List.{List, map}
 use Rattle.buffer.specs.declared.Lane.{Lane}
 use Rattle.buffer.specs.declared.Buffer.{Buffer}

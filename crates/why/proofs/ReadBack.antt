@@ -1,5 +1,5 @@
 -- A reason can be read back from its numbers. Assumes nothing.
-use Prim.Native.Nat.{ℕ, _+_, _*_}
+use Prim.Native.Nat.{ℕ}
 use mathlib.Core.Path.{_≡_, refl, sym, _∙_, ap}
 use mathlib.Core.Bool.{Bool, false, cond}
 use mathlib.Core.List.{List}

@@ -1,7 +1,7 @@
 -- A control request: the first thing that is wrong. Assumes nothing.
 use Prim.Native.Nat.{ℕ, _<_}
 use native.Mathlib.Omega.{arith}
-use mathlib.Core.Path.{_≡_, refl, _∙_}
+use mathlib.Core.Path.{_≡_, refl, sym, _∙_, subst}
 use mathlib.Core.List.{List}
 use mathlib.Core.Bool.{Bool, true, false, cond, _||_, true≢false, false≢true}
 use Rattle.buffer.specs.declared.Lane.{Lane}
@@ -12,7 +12,7 @@ use Rattle.request.specs.declared.Kind.the-variants as kind
 use Rattle.request.specs.declared.Request.{Request}
 use Rattle.request.specs.declared.Request.the-variants as request
 use Rattle.request.specs.Setup.{setupOf}
-use Rattle.request.specs.Table.{kindOf, isKnown, valueFits, indexFits, lengthFits}
+use Rattle.request.specs.Table.{isKnown, valueFits, indexFits, lengthFits}
 use Rattle.request.specs.Request.{meaning, checked, requestOf}
 use Rattle.hub.specs.declared.Hub.{Hub}
 use Rattle.hub.specs.Call.{refuse}
@@ -21,8 +21,26 @@ use Rattle.why.specs.declared.RequestFault.{RequestFault}
 use Rattle.why.specs.declared.RequestFault.the-variants as wrong
 use Rattle.why.specs.declared.Reason.{Reason}
 use Rattle.why.specs.declared.Reason.the-variants.{Nothing, Number, HeldBy, Reused, TookFree, LimitReached, NoRoom, Changed, Wrong}
-use Rattle.why.specs.Said.{right, servedUnconfigured, place, FirstWrong, SaidOfRequest}
-use Rattle.why.specs.Why.{firstWrong, requestReason}
+use Rattle.why.specs.Said.{kindIn, right, servedUnconfigured, place, FirstWrong, SaidOfRequest}
+use Rattle.why.specs.Why.{ownFault, requestReason}
+
+-- the first of the five tests that fails
+abbrev firstWrong : Bool → Bool → Bool → Bool → Bool → Reason
+firstWrong n c v i l =
+    cond n (cond c (cond v (cond i (cond l Nothing (Wrong wrong.Length)) (Wrong wrong.Index)) (Wrong wrong.Value)) (Wrong wrong.Unconfigured)) (Wrong wrong.TypeOrCode)
+
+meaning-right : (y : Kind) (v i l : ℕ) → isKnown y ≡ true → ownFault (meaning y v i l) ≡ Nothing
+meaning-right kind.Unknown v i l e = absurd (false≢true e)
+meaning-right kind.SetConfiguration v i l e = refl
+meaning-right kind.GetConfiguration v i l e = refl
+meaning-right kind.GetHubDescriptor v i l e = refl
+meaning-right kind.GetHubStatus v i l e = refl
+meaning-right kind.GetPortStatus v i l e = refl
+meaning-right kind.ClearHubFeature v i l e = refl
+meaning-right kind.ClearPortFeature v i l e = refl
+meaning-right kind.SetPortFeature v i l e = refl
+meaning-right kind.ClearTTBuffer v i l e = refl
+meaning-right kind.ResetTT v i l e = refl
 
 module _ (h : Hub) (s : List ℕ) where
   -- the five tests, by their places
@@ -37,9 +55,37 @@ module _ (h : Hub) (s : List ℕ) where
   before n a b c d e wrong.Index l = d l
   before n a b c d e wrong.Length l = e l
 
-  pub request-true : SaidOfRequest (requestReason h s) h s
-  unfolding requestReason
-  request-true =
+  abbrev k : Kind
+  k = kindIn s
+
+  abbrev q : Request
+  q = requestOf (h .identity .ports) s
+
+  -- the first test that fails names what is wrong
+  abbrev by-tests : Reason
+  by-tests = firstWrong (right wrong.TypeOrCode h s) (right wrong.Unconfigured h s) (right wrong.Value h s) (right wrong.Index h s) (right wrong.Length h s)
+
+  -- reading looks at the other fields in that order too
+  reads : requestReason h s ≡ by-tests
+  unfolding requestReason requestOf checked
+  reads = go (isKnown k) refl (right wrong.Unconfigured h s) (right wrong.Value h s) (right wrong.Index h s) (right wrong.Length h s)
+    where
+      go : (n : Bool) → isKnown k ≡ n → (c v i l : Bool)
+          → cond n
+          (cond c
+          (ownFault (cond n (cond v (cond i (cond l (meaning k (setupOf s .value) (setupOf s .index) (setupOf s .length)) (request.Wrong fault.Length)) (request.Wrong fault.Index)) (request.Wrong fault.Value)) (request.Wrong fault.TypeOrCode)))
+          (Wrong wrong.Unconfigured))
+          (Wrong wrong.TypeOrCode)
+          ≡ firstWrong n c v i l
+      go true e true true true true = meaning-right k (setupOf s .value) (setupOf s .index) (setupOf s .length) e
+      go true e true true true false = refl
+      go true e true true false l = refl
+      go true e true false i l = refl
+      go true e false v i l = refl
+      go false e c v i l = refl
+
+  tests-true : SaidOfRequest by-tests h s
+  tests-true =
       go (right wrong.TypeOrCode h s) refl (right wrong.Unconfigured h s) refl (right wrong.Value h s) refl (right wrong.Index h s) refl
       (right wrong.Length h s) refl
     where
@@ -75,31 +121,30 @@ module _ (h : Hub) (s : List ℕ) where
                 (λ k. absurd (omega (arith, k))) (λ k. absurd (omega (arith, k)));
           }
 
-  pub request-only : (r : Reason) → SaidOfRequest r h s → r ≡ requestReason h s
-  unfolding requestReason
-  request-only (Wrong wrong.TypeOrCode) f = rw (f .is-wrong)
-  request-only (Wrong wrong.Unconfigured) f = rw (f .before wrong.TypeOrCode (omega arith), f .is-wrong)
-  request-only (Wrong wrong.Value) f = rw (f .before wrong.TypeOrCode (omega arith), f .before wrong.Unconfigured (omega arith), f .is-wrong)
-  request-only (Wrong wrong.Index) f =
+  pub request-true : SaidOfRequest (requestReason h s) h s
+  request-true = subst (λ (r : Reason). SaidOfRequest r h s) (sym reads) tests-true
+
+  tests-only : (r : Reason) → SaidOfRequest r h s → r ≡ by-tests
+  tests-only (Wrong wrong.TypeOrCode) f = rw (f .is-wrong)
+  tests-only (Wrong wrong.Unconfigured) f = rw (f .before wrong.TypeOrCode (omega arith), f .is-wrong)
+  tests-only (Wrong wrong.Value) f = rw (f .before wrong.TypeOrCode (omega arith), f .before wrong.Unconfigured (omega arith), f .is-wrong)
+  tests-only (Wrong wrong.Index) f =
       rw (f .before wrong.TypeOrCode (omega arith), f .before wrong.Unconfigured (omega arith), f .before wrong.Value (omega arith), f .is-wrong)
-  request-only (Wrong wrong.Length) f =
+  tests-only (Wrong wrong.Length) f =
       rw (f .before wrong.TypeOrCode (omega arith), f .before wrong.Unconfigured (omega arith), f .before wrong.Value (omega arith), f .before wrong.Index (omega arith), f .is-wrong)
-  request-only Nothing f = rw (f wrong.TypeOrCode, f wrong.Unconfigured, f wrong.Value, f wrong.Index, f wrong.Length)
-  request-only (Number n) f = absurd f
-  request-only (HeldBy b) f = absurd f
-  request-only (Reused b) f = absurd f
-  request-only (TookFree b) f = absurd f
-  request-only NoRoom f = absurd f
-  request-only LimitReached f = absurd f
-  request-only (Changed f) g = absurd g
+  tests-only Nothing f = rw (f wrong.TypeOrCode, f wrong.Unconfigured, f wrong.Value, f wrong.Index, f wrong.Length)
+  tests-only (Number n) f = absurd f
+  tests-only (HeldBy b) f = absurd f
+  tests-only (Reused b) f = absurd f
+  tests-only (TookFree b) f = absurd f
+  tests-only NoRoom f = absurd f
+  tests-only LimitReached f = absurd f
+  tests-only (Changed f) g = absurd g
+
+  pub request-only : (r : Reason) → SaidOfRequest r h s → r ≡ requestReason h s
+  request-only r w = tests-only r w ∙ sym reads
 
   -- ---- it is enough for 2
-
-  abbrev k : Kind
-  k = kindOf (setupOf s .requesttype) (setupOf s .code)
-
-  abbrev q : Request
-  q = requestOf (h .identity .ports) s
 
   wrong-stalls : (n : Lane) (f : Fault) → requested h n (request.Wrong f) ≡ refuse 2 h
   unfolding requested

@@ -1,6 +1,6 @@
 -- When a reason is true of a hub and a call. A reader must believe: these are the words of document 02, C-15 and C-18, over document 01's
 -- state and table; what is wrong with a request is wrong by the table, and the order of things is `place`.
-use Prim.Native.Nat.{ℕ, _+_, _<_, _≤_}
+use Prim.Native.Nat.{ℕ, _<_, _≤_}
 use mathlib.Core.Path.{_≡_}
 use mathlib.Core.Logic.{_↔_}
 use mathlib.Core.Bool.{Bool, true, false, _&&_, _||_}
@@ -13,7 +13,6 @@ use Rattle.port.specs.declared.ChangeBit.{ChangeBit}
 use Rattle.port.specs.Reaction.{noChanges}
 use Rattle.port.specs.Status.{byteOf, hasChange}
 use Rattle.port.specs.Claims.{changeBit}
-use Rattle.buffer.specs.declared.Lane.{Lane}
 use Rattle.buffer.specs.declared.Key.{Key}
 use Rattle.buffer.specs.declared.BufferNumber.{BufferNumber}
 use Rattle.buffer.specs.declared.Slot.{Slot}

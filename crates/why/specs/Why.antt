@@ -1,7 +1,7 @@
 -- Which reason the tool gives: what its code computes. A reader need not believe this: `TrueOf` (Said.antt) says when a reason is true, and
 -- the claims say that this one is, that no other is, and that it is enough.
 use Prim.Native.Nat.{ℕ}
-use mathlib.Core.Bool.{Bool, cond}
+use mathlib.Core.Bool.{cond}
 use mathlib.Core.List.{List}
 use lib.Dec.{eqb}
 use lib.ListN.{getD}
@@ -13,9 +13,15 @@ use Rattle.translator.specs.declared.StartAnswer.{StartAnswer}
 use Rattle.translator.specs.declared.StartAnswer.the-variants.{Outside, Chosen}
 use Rattle.translator.specs.StartSplit.{startSplit}
 use Rattle.numbers.specs.Split.{splitFrom}
+use Rattle.request.specs.declared.Fault.{Fault}
+use Rattle.request.specs.declared.Fault.the-variants as fault
+use Rattle.request.specs.declared.Request.{Request}
+use Rattle.request.specs.declared.Request.the-variants as request
+use Rattle.request.specs.Request.{requestOf}
 use Rattle.hub.specs.declared.Hub.{Hub}
 use Rattle.hub.specs.Call.{Call, Control, Poll, Start, Complete, Launch, Deliver, Event, Tick, BusReset}
 use Rattle.hub.specs.Step.{step}
+use Rattle.why.specs.declared.RequestFault.{RequestFault}
 use Rattle.why.specs.declared.RequestFault.the-variants as wrong
 use Rattle.why.specs.declared.PortChanges.{PortChanges}
 use Rattle.why.specs.declared.Reason.{Reason}
@@ -52,13 +58,34 @@ changesByPort ps =
 unfoldable pub pollReason : ℕ → PortChanges → Reason
 pollReason n f = cond (eqb n 1) (Changed f) Nothing
 
--- tests in the order type and code, hub unconfigured, value, index, length
-abbrev pub firstWrong : Bool → Bool → Bool → Bool → Bool → Reason
-firstWrong n s v i l =
-    cond n (cond s (cond v (cond i (cond l Nothing (Wrong wrong.Length)) (Wrong wrong.Index)) (Wrong wrong.Value)) (Wrong wrong.Unconfigured)) (Wrong wrong.TypeOrCode)
+abbrev pub asRequestFault : Fault → RequestFault
+asRequestFault fault.TypeOrCode = wrong.TypeOrCode
+asRequestFault fault.Value = wrong.Value
+asRequestFault fault.Index = wrong.Index
+asRequestFault fault.Length = wrong.Length
 
+-- the fault that reading a request found
+abbrev pub ownFault : Request → Reason
+ownFault (request.Wrong f) = Wrong (asRequestFault f)
+ownFault (request.SetConfiguration on) = Nothing
+ownFault request.GetConfiguration = Nothing
+ownFault (request.GetHubDescriptor n) = Nothing
+ownFault request.GetHubStatus = Nothing
+ownFault (request.GetPortStatus n) = Nothing
+ownFault request.ClearHubFeature = Nothing
+ownFault (request.ClearPortFeature n f) = Nothing
+ownFault (request.SetPortFeature n f) = Nothing
+ownFault (request.ClearTTBuffer p) = Nothing
+ownFault request.ResetTT = Nothing
+
+-- the hub's configuration is looked at behind type and code, before the other fields
 unfoldable pub requestReason : Hub → List ℕ → Reason
-requestReason h s = firstWrong (right wrong.TypeOrCode h s) (right wrong.Unconfigured h s) (right wrong.Value h s) (right wrong.Index h s) (right wrong.Length h s)
+requestReason h s =
+    cond (right wrong.TypeOrCode h s)
+    (cond (right wrong.Unconfigured h s)
+    (ownFault (requestOf (h .identity .ports) s))
+    (Wrong wrong.Unconfigured))
+    (Wrong wrong.TypeOrCode)
 
 -- of a call to which none of 5 to 8 applies
 unfoldable pub ruleReason : Hub → Call → Reason

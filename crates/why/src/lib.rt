@@ -4,7 +4,7 @@ ghost use Rattle.hub.specs.Call.Call.{Control, Poll, Start, Complete, Launch, D
 ghost use Rattle.hub.specs.Step.{step};
 ghost use Rattle.why.specs.Said.{servedUnconfigured, place};
 ghost use Rattle.why.specs.Bytes.{plainBytes, bytesOf, ReasonsApart};
-ghost use Rattle.why.specs.Why.{numbered, startReason, changesByPort, pollReason, firstWrong, requestReason, whyOf};
+ghost use Rattle.why.specs.Why.{numbered, startReason, changesByPort, pollReason, asRequestFault, ownFault, requestReason, whyOf};
 ghost use Rattle.why.specs.Claims.{WhyClaims};
 ghost use Rattle.why.specs.ExplainedRuns.{Demand3WithReasons, explaining};
 ghost use Rattle.why.specs.Cases.{WhyCases};
@@ -13,7 +13,9 @@ use buffer::BufferNumber;
 use hub::Hub;
 use port::Changes;
 use port::Port;
+use request::Fault;
 use request::Kind;
+use request::Request;
 use translator::Choice;
 use translator::StartAnswer;
 
@@ -121,30 +123,33 @@ fn poll_reason(number: u8, changes: PortChanges) -> Reason
     }
 }
 
-// The first test that fails names what is wrong.
-fn first_wrong(named: bool, served: bool, value: bool, index: bool, length: bool) -> Reason
-    ensures { λ r. ⌜ r ≡ firstWrong named served value index length ⌝ }
+fn as_request_fault(fault: Fault) -> RequestFault
+    ensures { λ r. ⌜ r ≡ asRequestFault fault ⌝ }
 {
-    if named {
-        if served {
-            if value {
-                if index {
-                    if length {
-                        Reason::Nothing
-                    } else {
-                        Reason::Wrong(RequestFault::Length)
-                    }
-                } else {
-                    Reason::Wrong(RequestFault::Index)
-                }
-            } else {
-                Reason::Wrong(RequestFault::Value)
-            }
-        } else {
-            Reason::Wrong(RequestFault::Unconfigured)
-        }
-    } else {
-        Reason::Wrong(RequestFault::TypeOrCode)
+    match fault {
+        Fault::TypeOrCode => RequestFault::TypeOrCode,
+        Fault::Value => RequestFault::Value,
+        Fault::Index => RequestFault::Index,
+        Fault::Length => RequestFault::Length,
+    }
+}
+
+// The fault that reading a request found.
+fn own_fault(request: Request) -> Reason
+    ensures { λ r. ⌜ r ≡ ownFault request ⌝ }
+{
+    match request {
+        Request::Wrong(fault) => Reason::Wrong(as_request_fault(fault)),
+        Request::SetConfiguration(_) => Reason::Nothing,
+        Request::GetConfiguration => Reason::Nothing,
+        Request::GetHubDescriptor(_) => Reason::Nothing,
+        Request::GetHubStatus => Reason::Nothing,
+        Request::GetPortStatus(_) => Reason::Nothing,
+        Request::ClearHubFeature => Reason::Nothing,
+        Request::ClearPortFeature(_, _) => Reason::Nothing,
+        Request::SetPortFeature(_, _) => Reason::Nothing,
+        Request::ClearTTBuffer(_) => Reason::Nothing,
+        Request::ResetTT => Reason::Nothing,
     }
 }
 
@@ -189,18 +194,21 @@ pub fn explain_control(hub: Hub, lane: u32, setup: &[u8], room: usize) -> Reason
     number_first(o.reply.number, request_reason(hub, bytes))
 }
 
+// The hub's configuration is looked at behind type and code, before the other fields.
 fn request_reason(hub: Hub, bytes: [u8; 8]) -> Reason
     ensures { λ r. ⌜ r ≡ requestReason hub bytes ⌝ }
 {
     let s = request::setup_of(bytes);
     let kind = request::kind_of(s.requesttype, s.code);
-    first_wrong(
-        kind.is_known(),
-        logic::either(hub.configured, served_unconfigured(kind)),
-        kind.value_fits(s.value),
-        kind.index_fits(hub.identity.ports, s.index),
-        kind.length_fits(s.length),
-    )
+    if kind.is_known() {
+        if logic::either(hub.configured, served_unconfigured(kind)) {
+            own_fault(request::read(bytes, hub.identity.ports))
+        } else {
+            Reason::Wrong(RequestFault::Unconfigured)
+        }
+    } else {
+        Reason::Wrong(RequestFault::TypeOrCode)
+    }
 }
 
 pub fn explain_poll(hub: Hub, lane: u32, room: usize) -> Reason
