@@ -1,5 +1,6 @@
 # The front door. `make test` is the gate; `make check` is the quick loop, which proves what changed and runs the programs; `make lib` proves
-# the library and writes it. The targets of tests/tests.mk (test-c, test-model, test-why, soak, demo, why, speed) link against it.
+# the library and writes it. The targets of tests/tests.mk (test-c, test-model, test-why, test-replay, soak, demo, why, replay, speed) link
+# against it.
 PREFIX ?= /usr/local
 LIBRARY ?= target/libgrimholdi.a
 
@@ -18,17 +19,19 @@ check:
 
 lib: $(LIBRARY)
 
-# Two objects, the calls and what explains them: a firmware that explains nothing links the first alone.
-target/libgrimholdi.a: crates.txt $(shell find crates -name '*.rt' -o -name '*.antt')
-	rt staticlib grimholdi
-	rt staticlib grimholdi_why
-	cd target/staticlib && $(AR) x libgrimholdi.a && $(AR) x libgrimholdi_why.a
-	rm -f $@
-	$(AR) rcs $@ target/staticlib/grimholdi.o target/staticlib/grimholdi_why.o
+# Four objects: the calls, what explains them, what writes a recording and what replays it. A firmware links those that it uses.
+OBJECTS := grimholdi grimholdi_why grimholdi_block grimholdi_replay
 
-install: $(LIBRARY) $(TARGET)/why
+target/libgrimholdi.a: crates.txt $(shell find crates -name '*.rt' -o -name '*.antt')
+	set -e; for object in $(OBJECTS); do rt staticlib $$object; done
+	set -e; cd target/staticlib; for object in $(OBJECTS); do $(AR) x lib$$object.a; done
+	rm -f $@
+	$(AR) rcs $@ $(OBJECTS:%=target/staticlib/%.o)
+
+install: $(LIBRARY) $(TARGET)/why $(TARGET)/replay
 	install -d $(DESTDIR)$(PREFIX)/lib/pkgconfig $(DESTDIR)$(PREFIX)/include $(DESTDIR)$(PREFIX)/bin
 	install -m 755 $(TARGET)/why $(DESTDIR)$(PREFIX)/bin/grimholdi-why
+	install -m 755 $(TARGET)/replay $(DESTDIR)$(PREFIX)/bin/grimholdi-replay
 	install -m 644 $(LIBRARY) $(DESTDIR)$(PREFIX)/lib/libgrimholdi.a
-	install -m 644 include/grimholdi.h $(DESTDIR)$(PREFIX)/include/grimholdi.h
+	install -m 644 $(INCLUDED) $(DESTDIR)$(PREFIX)/include
 	sed 's|@PREFIX@|$(PREFIX)|' grimholdi.pc.in > $(DESTDIR)$(PREFIX)/lib/pkgconfig/grimholdi.pc

@@ -8,20 +8,29 @@
  * end and microphones are simulated here.  At the end each take must have
  * arrived whole, or up to the unplugging, in its own lane.
  *
- *   firmware [FILE]
+ *   firmware [--nak-area FILE] [--record FILE] [--answers FILE]
  *
- * dumps the area into FILE as it stands before the start-split that is
- * refused, so that `why` can tell the reason (docs/WHY.md).
+ *   --nak-area  dumps the area as it stands before the start-split that is
+ *               refused, so that `why` can tell the reason (docs/WHY.md)
+ *   --record    records all calls, so that `replay` can make them again
+ *   --answers   writes all answers, as a replay does (docs/CALLS.md)
  */
 
 #include "grimholdi.h"
+#include "grimholdi_record.h"
 
 #include <stdio.h>
 #include <string.h>
 
-enum {
+enum { /* the hub's five numbers, which a replay is given: 4 3 50 100 0 */
     PORTS = 4,
     BUFFERS = 3,         /* a lane may hold two */
+    POWER_GOOD = 50,     /* 100 ms */
+    CURRENT = 100,       /* mA */
+    REMOVABLE = 0
+};
+
+enum {
     COMPUTERS = 2,
     ADDRESS = 5,         /* of both microphones */
     TAKE = 1,            /* endpoints: the take, .. */
@@ -55,7 +64,9 @@ static uint8_t area[GRIMHOLDI_AREA_LENGTH_MAX];
 static size_t area_len;
 static uint8_t reply[GRIMHOLDI_REPLY_LENGTH];
 static computer computers[COMPUTERS];
-static const char *dump_name; /* or NULL */
+static const char *nak_area_name; /* file names, or NULL */
+static const char *record_name;
+static const char *answers_name;
 static unsigned now; /* ms */
 static int failed;
 
@@ -65,6 +76,141 @@ static void expect(int holds, const char *what)
         printf("%4u UNEXPECTED: %s\n", now, what);
         failed = 1;
     }
+}
+
+/* The recording of the session. */
+
+static grimholdi_recorder recorder;
+static uint8_t record[GRIMHOLDI_RECORD_SPACE];
+static FILE *record_file;
+static FILE *answers_file;
+
+static uint8_t keep_block(void *file, const uint8_t *block)
+{
+    return fwrite(block, GRIMHOLDI_BLOCK_LENGTH, 1, (FILE *)file) == 1
+           && fflush((FILE *)file) == 0 ? GRIMHOLDI_DONE : GRIMHOLDI_NAK;
+}
+
+static FILE *open_file(const char *name)
+{
+    FILE *file = NULL;
+    char what[FILENAME_MAX];
+
+    if (name != NULL) {
+        file = fopen(name, "wb");
+        snprintf(what, sizeof what, "not opened: %s", name);
+        expect(file != NULL, what);
+    }
+    return file;
+}
+
+static void start_recording(void)
+{
+    record_file = open_file(record_name);
+    answers_file = open_file(answers_name);
+    if (record_file != NULL)
+        grimholdi_recorder_start(&recorder, keep_block, record_file);
+}
+
+static void finish_recording(void)
+{
+    if (record_file != NULL) {
+        grimholdi_recorder_finish(&recorder);
+        expect(recorder.missed == 0, "calls not recorded");
+        expect(fclose(record_file) == 0, "recording not written");
+    }
+    if (answers_file != NULL)
+        expect(fclose(answers_file) == 0, "answers not written");
+}
+
+static grimholdi_answer keep_answer(grimholdi_answer answer)
+{
+    if (answers_file != NULL)
+        expect(fwrite(&answer, sizeof answer, 1, answers_file) == 1
+               && fwrite(reply, 1, answer.length, answers_file)
+                  == answer.length, "answers not written");
+    return answer;
+}
+
+/*
+ * The calls of the hub that this firmware makes, with its own area and reply
+ * space.  Each is recorded before it is made; without a recording, the
+ * recorder does nothing.
+ */
+
+static grimholdi_answer hub_control(uint32_t lane, const uint8_t *setup,
+                                    size_t setup_len)
+{
+    grimholdi_recorder_add(&recorder, record, grimholdi_record_control(
+        record, sizeof record, lane, setup, setup_len, sizeof reply));
+    return keep_answer(grimholdi_control(area, area_len, lane, setup,
+                                         setup_len, reply, sizeof reply));
+}
+
+static grimholdi_answer hub_poll(uint32_t lane)
+{
+    grimholdi_recorder_add(&recorder, record, grimholdi_record_poll(
+        record, sizeof record, lane, sizeof reply));
+    return keep_answer(grimholdi_poll(area, area_len, lane, reply,
+                                      sizeof reply));
+}
+
+static grimholdi_answer hub_start_split(uint32_t lane, uint32_t pid,
+                                        uint32_t transfer, uint32_t low_speed,
+                                        uint32_t toggle, uint32_t address,
+                                        uint32_t endpoint,
+                                        const uint8_t *payload,
+                                        size_t payload_len)
+{
+    grimholdi_recorder_add(&recorder, record, grimholdi_record_start_split(
+        record, sizeof record, lane, pid, transfer, low_speed, toggle, address,
+        endpoint, payload, payload_len));
+    return keep_answer(grimholdi_start_split(area, area_len, lane, pid,
+                                             transfer, low_speed, toggle,
+                                             address, endpoint, payload,
+                                             payload_len));
+}
+
+static grimholdi_answer hub_complete_split(uint32_t lane, uint32_t address,
+                                           uint32_t endpoint,
+                                           uint32_t direction)
+{
+    grimholdi_recorder_add(&recorder, record, grimholdi_record_complete_split(
+        record, sizeof record, lane, address, endpoint, direction,
+        sizeof reply));
+    return keep_answer(grimholdi_complete_split(area, area_len, lane, address,
+                                                endpoint, direction, reply,
+                                                sizeof reply));
+}
+
+static grimholdi_answer hub_launch(void)
+{
+    grimholdi_recorder_add(&recorder, record, grimholdi_record_launch(
+        record, sizeof record, sizeof reply));
+    return keep_answer(grimholdi_launch(area, area_len, reply, sizeof reply));
+}
+
+static grimholdi_answer hub_deliver(uint32_t result, const uint8_t *payload,
+                                    size_t payload_len)
+{
+    grimholdi_recorder_add(&recorder, record, grimholdi_record_deliver(
+        record, sizeof record, result, payload, payload_len));
+    return keep_answer(grimholdi_deliver(area, area_len, result, payload,
+                                         payload_len));
+}
+
+static grimholdi_answer hub_line_event(uint32_t event, uint32_t port)
+{
+    grimholdi_recorder_add(&recorder, record, grimholdi_record_line_event(
+        record, sizeof record, event, port));
+    return keep_answer(grimholdi_line_event(area, area_len, event, port));
+}
+
+static grimholdi_answer hub_tick(void)
+{
+    grimholdi_recorder_add(&recorder, record, grimholdi_record_tick(
+        record, sizeof record));
+    return keep_answer(grimholdi_tick(area, area_len));
 }
 
 /* The log: a time and a letter in each line, see main. */
@@ -109,7 +255,7 @@ static void print_answer(grimholdi_answer answer)
         print_bytes(reply, answer.length);
 }
 
-/* Calls of the hub with the firmware's own area and reply space. */
+/* Calls, written into the log. */
 
 /* Requests here are done, or give data if they ask for any. */
 static void request(const computer *from, const char *name, uint8_t type,
@@ -122,9 +268,7 @@ static void request(const computer *from, const char *name, uint8_t type,
         (uint8_t)index, (uint8_t)(index >> 8),
         (uint8_t)length, (uint8_t)(length >> 8)
     };
-    grimholdi_answer answer = grimholdi_control(area, area_len, from->lane,
-                                                setup, sizeof setup,
-                                                reply, sizeof reply);
+    grimholdi_answer answer = hub_control(from->lane, setup, sizeof setup);
 
     printf("%4u R C%c:%u s %02x %02x %04x %04x %04x", now,
            type & 0x80 ? 'i' : 'o', from->lane, type, code, value, index,
@@ -144,22 +288,21 @@ static void set_feature(const computer *from, uint16_t feature)
 static void line_event(uint32_t event, uint8_t port, const char *name)
 {
     printf("%4u E port %u %s\n", now, port, name);
-    expect(grimholdi_line_event(area, area_len, event, port).number
-           == GRIMHOLDI_DONE, name);
+    expect(hub_line_event(event, port).number == GRIMHOLDI_DONE, name);
 }
 
 static void tick(void)
 {
     now++;
-    expect(grimholdi_tick(area, area_len).number == GRIMHOLDI_DONE, "tick");
+    expect(hub_tick().number == GRIMHOLDI_DONE, "tick");
 }
 
 static void start_split(const computer *from, uint8_t endpoint,
                         uint8_t expected, const char *remark)
 {
-    grimholdi_answer answer = grimholdi_start_split(
-        area, area_len, from->lane, GRIMHOLDI_PID_IN, GRIMHOLDI_TRANSFER_BULK,
-        0, 0, ADDRESS, endpoint, NULL, 0);
+    grimholdi_answer answer = hub_start_split(
+        from->lane, GRIMHOLDI_PID_IN, GRIMHOLDI_TRANSFER_BULK, 0, 0, ADDRESS,
+        endpoint, NULL, 0);
 
     print_key('S', from->lane, endpoint);
     print_answer(answer);
@@ -169,9 +312,8 @@ static void start_split(const computer *from, uint8_t endpoint,
 
 static grimholdi_answer complete_split(const computer *from, uint8_t endpoint)
 {
-    grimholdi_answer answer = grimholdi_complete_split(
-        area, area_len, from->lane, ADDRESS, endpoint, GRIMHOLDI_DIRECTION_IN,
-        reply, sizeof reply);
+    grimholdi_answer answer = hub_complete_split(
+        from->lane, ADDRESS, endpoint, GRIMHOLDI_DIRECTION_IN);
 
     print_key('C', from->lane, endpoint);
     print_answer(answer);
@@ -196,8 +338,7 @@ static void give_up(computer *of)
  */
 static void serve_changes(computer *of)
 {
-    grimholdi_answer answer = grimholdi_poll(area, area_len, of->lane,
-                                             reply, sizeof reply);
+    grimholdi_answer answer = hub_poll(of->lane);
     uint8_t status, changes, bit;
 
     if (answer.number != GRIMHOLDI_DATA) {
@@ -226,17 +367,12 @@ static void serve_changes(computer *of)
 /* All that `why` needs of the hub. */
 static void dump_area(void)
 {
-    FILE *file;
+    FILE *file = open_file(nak_area_name);
 
-    if (dump_name == NULL)
+    if (file == NULL)
         return;
-    file = fopen(dump_name, "wb");
-    if (file == NULL) {
-        expect(0, "dump: file not opened");
-        return;
-    }
-    expect(fwrite(area, 1, area_len, file) == area_len, "dump");
-    expect(fclose(file) == 0, "dump");
+    expect(fwrite(area, 1, area_len, file) == area_len, "area not written");
+    expect(fclose(file) == 0, "area not written");
 }
 
 static uint8_t other_data(uint8_t data)
@@ -307,8 +443,8 @@ static void deliver(const computer *to, uint8_t endpoint, uint8_t result,
     if (bytes != NULL)
         print_bytes(bytes, length);
     printf("\n");
-    expect(grimholdi_deliver(area, area_len, result, bytes, length).number
-           == GRIMHOLDI_DONE, "deliver");
+    expect(hub_deliver(result, bytes, length).number == GRIMHOLDI_DONE,
+           "deliver");
 }
 
 /* What the microphone replies to an IN. */
@@ -342,8 +478,7 @@ static void unplug_in_time(uint8_t running_lane)
 static void run_low_side(void)
 {
     for (;;) {
-        grimholdi_answer launched = grimholdi_launch(area, area_len,
-                                                     reply, sizeof reply);
+        grimholdi_answer launched = hub_launch();
         int i;
 
         if (launched.number != GRIMHOLDI_DATA || launched.lane >= COMPUTERS) {
@@ -381,8 +516,8 @@ static void set_up(void)
     int i;
 
     area_len = grimholdi_area_length(PORTS, BUFFERS);
-    expect(grimholdi_new(area, area_len, PORTS, BUFFERS, 50, 100, 0).number
-           == GRIMHOLDI_DONE, "new hub");
+    expect(grimholdi_new(area, area_len, PORTS, BUFFERS, POWER_GOOD, CURRENT,
+                         REMOVABLE).number == GRIMHOLDI_DONE, "new hub");
     make_computer(&computers[0], 0, 1);
     make_computer(&computers[1], 1, 2);
     request(&computers[0], "SetConfiguration",
@@ -443,15 +578,40 @@ static void check_takes(void)
     }
 }
 
+static int read_options(int argc, char **argv)
+{
+    int i;
+
+    for (i = 1; i + 1 < argc; i += 2) {
+        if (strcmp(argv[i], "--nak-area") == 0)
+            nak_area_name = argv[i + 1];
+        else if (strcmp(argv[i], "--record") == 0)
+            record_name = argv[i + 1];
+        else if (strcmp(argv[i], "--answers") == 0)
+            answers_name = argv[i + 1];
+        else
+            return 0;
+    }
+    return i == argc;
+}
+
 int main(int argc, char **argv)
 {
-    if (argc > 1)
-        dump_name = argv[1];
+    if (!read_options(argc, argv)) {
+        fprintf(stderr, "usage: firmware [--nak-area FILE] [--record FILE] "
+                "[--answers FILE]\n"
+                "A replay of the recording is given the hub's five numbers: "
+                "%d %d %d %d %d\n",
+                PORTS, BUFFERS, POWER_GOOD, CURRENT, REMOVABLE);
+        return 2;
+    }
     printf("  ms R request, P poll: lane; E line event; S start-split,\n"
            "     L launch, D deliver, C complete-split: "
            "lane:address:endpoint\n\n");
+    start_recording();
     set_up();
     read_takes();
+    finish_recording();
     check_takes();
     printf("%s\n", failed ? "FAILED" : "passed");
     return failed;

@@ -66,15 +66,29 @@
  *   is no reply space, and reply_len, any number, is the length of the one the
  *   call would get.  A firmware that explains nothing links none of them.
  *
+ * Recordings
+ *
+ *   A session can be recorded and replayed.  A recording is a file of 0 to
+ *   65,535 blocks of 512 bytes; a block holds records, and a record is the
+ *   written form of one call, with any numbers and lengths, refused ones too.
+ *   docs/CALLS.md lays down all bytes.  grimholdi_block_start, _add and
+ *   _finish write a block in 512 bytes that the caller lends;
+ *   grimholdi_record.h builds the records.  grimholdi_replay_block makes the
+ *   calls of a block, in order, on the hub of an area.  A firmware that
+ *   neither records nor replays links none of them.
+ *
  * What nothing can check
  *
- *   Each pointer must hold as many bytes as its length says, and the area and
- *   the reply space must be writable, but for an area that is only explained.
- *   (NULL, 0) is an empty slice; it is permitted for every pointer and length.
- *   The area must overlap neither the reply space nor the setup or payload
- *   bytes, and the reply space must not overlap the setup bytes.  Two calls on
- *   one area must not run at the same time, unless both only explain; calls on
- *   different areas may.
+ *   Each pointer must hold as many bytes as its length says, and the area, the
+ *   reply space, the answers' space and a block that is being written must be
+ *   writable, but for an area that is only explained.  (NULL, 0) is an empty
+ *   slice; it is permitted for every pointer and length.  The area must
+ *   overlap neither the reply space nor the setup or payload bytes, and the
+ *   reply space must not overlap the setup bytes.  Area, block and answers'
+ *   space of a replay must not overlap, nor a block and the record that is
+ *   added to it.  Two calls with one area, one reply space, one answers' space
+ *   or one block that is being written must not run at the same time, unless
+ *   both only explain; calls with different ones may.
  */
 
 #ifndef GRIMHOLDI_H
@@ -100,6 +114,11 @@ extern "C" {
 #define GRIMHOLDI_SETUP_LENGTH      8
 #define GRIMHOLDI_REPLY_LENGTH      64  /* least reply space */
 #define GRIMHOLDI_AREA_LENGTH_MAX   324 /* area of 7 ports and 4 buffers */
+#define GRIMHOLDI_BLOCK_LENGTH      512 /* block of a recording */
+#define GRIMHOLDI_BLOCK_USED_MAX    506 /* bytes of records in a block */
+#define GRIMHOLDI_BLOCK_NUMBER_MAX  65535 /* blocks are numbered from 1 */
+#define GRIMHOLDI_ANSWERS_LENGTH    37444 /* least space for the answers of a
+                                             block: 506 of 10 + 64 bytes */
 #define GRIMHOLDI_RESET_TICKS       15  /* ticks that end a port reset */
 #define GRIMHOLDI_RESUME_TICKS      22  /* ticks that end a resume */
 
@@ -298,6 +317,40 @@ typedef struct {
 } grimholdi_reason;
 
 /*
+ * Why a block of a recording is refused, in the order in which it is tested.
+ * A block is taken exactly if it is the written form of some calls at its
+ * place.
+ */
+
+#define GRIMHOLDI_REFUSED_NOT       0   /* the block is good */
+#define GRIMHOLDI_REFUSED_LENGTH    1   /* not 512 bytes */
+#define GRIMHOLDI_REFUSED_CHECK     2   /* its 256 words, little-endian, do not
+                                           sum to zero modulo 65,536 */
+#define GRIMHOLDI_REFUSED_NUMBER    3   /* its number is not its place; no
+                                           number is right for place 0 or a
+                                           place above 65,535 */
+#define GRIMHOLDI_REFUSED_COUNT     4   /* more than 506 bytes used, or an
+                                           unused one is not zero */
+#define GRIMHOLDI_REFUSED_RECORD    5   /* the bytes used are not records, one
+                                           behind the other */
+
+/*
+ * What became of a block.  Where `number` is not DONE, the rest is 0; of a
+ * block that is refused, all but `refusal` and `active`.
+ */
+
+typedef struct {
+    uint8_t number;     /* DONE, OUTSIDE or NO_SPACE */
+    uint8_t refusal;    /* GRIMHOLDI_REFUSED_.. */
+    uint8_t active;     /* buffers pending or ready, now */
+    uint32_t stored;    /* by the block's calls: start-splits stored, */
+    uint32_t answered;  /* start-splits for which a complete-split got DATA or
+                           HANDSHAKE for the first time, */
+    uint32_t emptied;   /* and start-splits emptied before that */
+    uint32_t length;    /* bytes of the answers' space that were written */
+} grimholdi_replayed;
+
+/*
  * The length of the area of a hub with that many ports and buffers, or 0 where
  * a number is outside the rules.
  */
@@ -312,8 +365,9 @@ size_t grimholdi_area_length(uint32_t ports, uint32_t buffers);
  *   buffers     2 to 4
  *   power_good  0 to 255, time from power on to power good, in 2 ms
  *   current     0 to 255, the hub's own current, in mA
- *   removable   a byte with bit p for port p; bit 0 and the bits above the
- *               last port are zero
+ *   removable   a byte with bit p for port p, 1: its device is not removable
+ *               (DeviceRemovable, USB 2.0, 11.23.2.1); bit 0 and the bits
+ *               above the last port are zero
  *
  * OUTSIDE  a number is outside the rules, or area_len is not
  *          grimholdi_area_length(ports, buffers)
@@ -588,6 +642,76 @@ grimholdi_answer grimholdi_bus_reset(uint8_t *area, size_t area_len);
 
 /* Its reason: NUMBER, where the area is refused, or NONE. */
 grimholdi_reason grimholdi_why_bus_reset(const uint8_t *area, size_t area_len);
+
+/*
+ * Begins a block of a recording, with no records.  What the memory held before
+ * does not matter.  Until it is finished, the block is under way: its first
+ * two bytes are zero, which is no block's number, and the number waits in the
+ * last two.
+ *
+ *   number       1 to 65,535: the block's place in the recording
+ *
+ * OUTSIDE  block_len is not 512, or the number is outside the rules; no byte
+ *          is changed
+ * DONE     the block is under way
+ */
+uint8_t grimholdi_block_start(uint8_t *block, size_t block_len,
+                              uint32_t number);
+
+/*
+ * Adds a record to the block under way.
+ *
+ *   record       the written form of one call, no byte more or less
+ *
+ * OUTSIDE  no block is under way in the memory (it is not 512 bytes, its
+ *          first two bytes are not zero, its last two are, or its count is
+ *          above 506), or the record is not the written form of a call
+ * NAK      the record does not fit behind the others: finish this block and
+ *          add it to the next.  One of more than 506 bytes fits none and is
+ *          not recorded.
+ * DONE     the record is the last of the block
+ *
+ * Other answers than DONE change no byte.
+ */
+uint8_t grimholdi_block_add(uint8_t *block, size_t block_len,
+                            const uint8_t *record, size_t record_len);
+
+/*
+ * Finishes the block under way: writes its number and its check.
+ *
+ * OUTSIDE  no block is under way, or what stands in it are not records with
+ *          zeros behind them; no byte is changed
+ * DONE     the block is the written form of the calls that were added
+ */
+uint8_t grimholdi_block_finish(uint8_t *block, size_t block_len);
+
+/*
+ * Makes the calls of one block of a recording, in order, on the hub of the
+ * area, and writes each answer whole: the ten bytes of grimholdi_answer, in
+ * the order of its fields, then the `length` bytes of its reply.  Calls that
+ * the hub refuses are made like any other.
+ *
+ *   place        the block's place in the recording, counted from 1
+ *   answers      at least GRIMHOLDI_ANSWERS_LENGTH bytes
+ *
+ * OUTSIDE   the area is refused
+ * NO_SPACE  answers_len is below GRIMHOLDI_ANSWERS_LENGTH
+ * DONE      `refusal` says what is wrong with the block; then none of its
+ *           calls is made, and area and answers keep every byte.  A block that
+ *           is not refused leaves the area as its calls leave it, and writes
+ *           the first `length` bytes of the answers' space.
+ *
+ * To replay a session, make the hub with grimholdi_new and hand in block
+ * after block, with places 1, 2, .., up to the first that is refused.  Added
+ * up over the blocks, `stored` is then `answered` plus `emptied` plus the
+ * last `active`.
+ */
+grimholdi_replayed grimholdi_replay_block(uint8_t *area, size_t area_len,
+                                          uint32_t place,
+                                          const uint8_t *block,
+                                          size_t block_len,
+                                          uint8_t *answers,
+                                          size_t answers_len);
 
 #ifdef __cplusplus
 }

@@ -2,10 +2,12 @@
 #
 #   make test-c      C and C++ tests, under valgrind
 #   make test-why    the tool why; each run under WHY_UNDER, if that is given
+#   make test-replay the tool replay, beside the model; under REPLAY_UNDER
 #   make test-model  the model: self-check, then 2,000,000 calls compared
 #   make soak        the model over SOAK_CALLS calls, with a new seed
 #   make demo        the example firmware
 #   make why         the tool why, on the example's own NAK
+#   make replay      the tool replay, on the example's own recording
 #   make speed       instructions per call, against inplace.c
 #
 # LIBRARY names the static library; LDLIBS what else it needs.  For a trial
@@ -25,20 +27,33 @@ SOAK_SEED ?= $(shell date +%s)
 
 TEST_CFLAGS := -std=c99 -O1 -g -Wall -Wextra -Werror -pedantic -Iinclude
 TEST_CXXFLAGS := -std=c++11 -O1 -g -Wall -Wextra -Werror -pedantic -Iinclude
-C_HEADERS := tests/c/bench_hub.h tests/c/check.h include/grimholdi.h
+INCLUDED := include/grimholdi.h include/grimholdi_record.h
+C_HEADERS := $(wildcard tests/c/*.h) $(INCLUDED)
 C_TESTS := $(patsubst tests/c/%.c,$(TARGET)/c/%,$(wildcard tests/c/test_*.c))
 CXX_TESTS := $(patsubst tests/c/%.cpp,$(TARGET)/c/%,$(wildcard tests/c/test_*.cpp))
-WHY_HEADERS := $(wildcard tools/why/*.h)
-WHY_SOURCES := $(wildcard tools/why/*.c)
+WORDS_HEADERS := $(wildcard tools/words/*.h)
+WORDS_SOURCES := $(wildcard tools/words/*.c)
+WHY_HEADERS := $(wildcard tools/why/*.h) $(WORDS_HEADERS)
+WHY_SOURCES := $(wildcard tools/why/*.c) $(WORDS_SOURCES)
 WHY_UNDER ?=
+REPLAY_HEADERS := $(wildcard tools/replay/*.h) $(WORDS_HEADERS)
+REPLAY_SOURCES := $(wildcard tools/replay/*.c) $(WORDS_SOURCES)
+REPLAY_UNDER ?=
 NAK_AREA := $(TARGET)/nak.area
-MODEL := GRIMHOLDI_LIBRARY=$(abspath $(LIBRARY)) $(CARGO) run --release --quiet \
-	--manifest-path tests/model/Cargo.toml --target-dir $(TARGET)/model --
+SESSION := $(TARGET)/session.rec
+SESSION_ANSWERS := $(TARGET)/session.answers
+# The five numbers of the example's hub.
+SESSION_HUB := 4 3 50 100 0
+MODEL_CARGO = GRIMHOLDI_LIBRARY=$(abspath $(LIBRARY)) $(CARGO) $(1) --release \
+	--quiet --manifest-path tests/model/Cargo.toml --target-dir $(TARGET)/model
+MODEL := $(call MODEL_CARGO,run) --
+MODEL_PROGRAM := $(TARGET)/model/release/model
 
 # Rewritten when LIBRARY names another file, so that programs are linked anew.
 LINKED := $(TARGET)/linked-library
 
-.PHONY: always lib-stand-in test-c test-model test-why soak demo why speed
+.PHONY: always lib-stand-in test-c test-model test-why test-replay soak demo \
+	why replay speed
 
 $(LINKED): always
 	mkdir -p $(@D)
@@ -46,20 +61,24 @@ $(LINKED): always
 
 lib-stand-in: $(STAND_IN)
 
-# inplace.c under the library's own names.
-$(STAND_IN): tests/inplace/inplace.c tests/inplace/inplace.h include/grimholdi.h
+# The C in place under the library's own names.
+$(TARGET)/stand-in/%.o: tests/inplace/%.c tests/inplace/inplace.h $(INCLUDED)
 	mkdir -p $(@D)
 	$(CC) -std=c99 -O2 -Wall -Wextra -Werror -pedantic -Iinclude \
-		-DINPLACE_AS_LIBRARY -c $< -o $(@D)/inplace.o
-	$(AR) rcs $@ $(@D)/inplace.o
+		-DINPLACE_AS_LIBRARY -c $< -o $@
+
+$(STAND_IN): $(patsubst tests/inplace/%.c,$(TARGET)/stand-in/%.o,$(wildcard \
+		tests/inplace/*.c))
+	rm -f $@
+	$(AR) rcs $@ $^
 
 $(C_TESTS): $(TARGET)/c/%: tests/c/%.c $(C_HEADERS) $(LIBRARY) $(LINKED)
 	mkdir -p $(@D)
 	$(CC) $(TEST_CFLAGS) $< $(TESTED_SOURCES) $(LIBRARY) $(LDLIBS) -o $@
 
 # A test of the tool's sources links them beside itself.
-AREA_VIEW := $(patsubst %,tools/why/%.c,area_view area_fault fault names \
-	transactions)
+AREA_VIEW := $(patsubst %,tools/%.c,why/area_view why/area_fault \
+	why/transactions words/fault words/names words/text)
 $(TARGET)/c/test_area_view: TESTED_SOURCES := $(AREA_VIEW)
 $(TARGET)/c/test_area_view: $(AREA_VIEW) $(WHY_HEADERS)
 
@@ -77,27 +96,44 @@ test-model: $(LIBRARY)
 soak: $(LIBRARY)
 	$(MODEL) --calls $(SOAK_CALLS) --seed $(SOAK_SEED)
 
-$(TARGET)/firmware: examples/firmware.c include/grimholdi.h $(LIBRARY) $(LINKED)
+$(TARGET)/firmware: examples/firmware.c $(INCLUDED) $(LIBRARY) $(LINKED)
 	mkdir -p $(@D)
 	$(CC) $(TEST_CFLAGS) $< $(LIBRARY) $(LDLIBS) -o $@
 
 demo: $(TARGET)/firmware
 	$(TARGET)/firmware
 
-$(TARGET)/why: $(WHY_SOURCES) $(WHY_HEADERS) include/grimholdi.h $(LIBRARY) \
-		$(LINKED)
+$(TARGET)/why: $(WHY_SOURCES) $(WHY_HEADERS) $(INCLUDED) $(LIBRARY) $(LINKED)
 	mkdir -p $(@D)
 	$(CC) $(TEST_CFLAGS) $(WHY_SOURCES) $(LIBRARY) $(LDLIBS) -o $@
 
-# The area before the start-split of the example that is refused.
-$(NAK_AREA): $(TARGET)/firmware
-	$(TARGET)/firmware $@ > /dev/null || { rm -f $@; exit 1; }
+$(TARGET)/replay: $(REPLAY_SOURCES) $(REPLAY_HEADERS) $(INCLUDED) $(LIBRARY) \
+		$(LINKED)
+	mkdir -p $(@D)
+	$(CC) $(TEST_CFLAGS) $(REPLAY_SOURCES) $(LIBRARY) $(LDLIBS) -o $@
+
+# What the example writes: the area before the start-split that is refused, the
+# recording of its session, and the answers that it got.
+$(NAK_AREA): WRITTEN := --nak-area
+$(SESSION): WRITTEN := --record
+$(SESSION_ANSWERS): WRITTEN := --answers
+$(NAK_AREA) $(SESSION) $(SESSION_ANSWERS): $(TARGET)/firmware
+	$(TARGET)/firmware $(WRITTEN) $@ > /dev/null || { rm -f $@; exit 1; }
 
 why: $(TARGET)/why $(NAK_AREA)
 	$(TARGET)/why $(NAK_AREA) start-split 0 IN bulk full 0 5 3
 
 test-why: $(TARGET)/why $(NAK_AREA)
 	python3 -B tests/tools/test_why.py $(NAK_AREA) $(WHY_UNDER) $(TARGET)/why
+
+replay: $(TARGET)/replay $(SESSION)
+	$(TARGET)/replay $(SESSION) $(SESSION_HUB)
+
+# The model's program is built first: cargo knows whether it has to be.
+test-replay: $(TARGET)/replay $(SESSION) $(SESSION_ANSWERS)
+	$(call MODEL_CARGO,build)
+	python3 -B tests/tools/test_replay.py $(SESSION) $(SESSION_ANSWERS) \
+		$(MODEL_PROGRAM) $(REPLAY_UNDER) $(TARGET)/replay
 
 speed: $(LIBRARY)
 	CC="$(CC)" LDLIBS="$(LDLIBS)" tests/speed/speed.sh $(LIBRARY) $(TARGET)/speed

@@ -1,8 +1,44 @@
-// The header in C++: it compiles, and its calls link.
+// The headers in C++: they compile, and their calls link.
 
 #include "grimholdi.h"
+#include "grimholdi_record.h"
 
 #include "check.h"
+
+#include <cstring>
+
+static uint8_t recording[GRIMHOLDI_BLOCK_LENGTH];
+static uint8_t answers[GRIMHOLDI_ANSWERS_LENGTH];
+
+static uint8_t keep(void *context, const uint8_t *block)
+{
+    std::memcpy(context, block, GRIMHOLDI_BLOCK_LENGTH);
+    return GRIMHOLDI_DONE;
+}
+
+// Records a tick and a poll, and replays them.
+static void record_and_replay(uint8_t *area, size_t length)
+{
+    uint8_t record[GRIMHOLDI_RECORD_SPACE];
+    grimholdi_recorder recorder;
+
+    grimholdi_recorder_start(&recorder, keep, recording);
+    grimholdi_recorder_add(&recorder, record,
+                           grimholdi_record_tick(record, sizeof record));
+    grimholdi_recorder_add(&recorder, record,
+                           grimholdi_record_poll(record, sizeof record, 0,
+                                                 GRIMHOLDI_REPLY_LENGTH));
+    grimholdi_recorder_finish(&recorder);
+    CHECK(recorder.missed == 0);
+
+    const grimholdi_replayed replayed = grimholdi_replay_block(
+        area, length, 1, recording, sizeof recording, answers, sizeof answers);
+
+    CHECK(replayed.number == GRIMHOLDI_DONE);
+    CHECK(replayed.refusal == GRIMHOLDI_REFUSED_NOT);
+    CHECK(replayed.length == 20);
+    CHECK(answers[0] == GRIMHOLDI_DONE && answers[10] == GRIMHOLDI_SILENT);
+}
 
 int main()
 {
@@ -20,6 +56,10 @@ int main()
     CHECK(offsetof(grimholdi_answer, address) == 5);
     CHECK(sizeof(grimholdi_reason) == 9);
     CHECK(offsetof(grimholdi_reason, changes) == 2);
+    CHECK(sizeof(grimholdi_replayed) == 20);
+    CHECK(offsetof(grimholdi_replayed, active) == 2);
+    CHECK(offsetof(grimholdi_replayed, stored) == 4);
+    CHECK(offsetof(grimholdi_replayed, length) == 16);
     CHECK(length == sizeof area);
     CHECK(grimholdi_new(area, length, 7, 4, 0, 0, 0).number == GRIMHOLDI_DONE);
     CHECK(grimholdi_control(area, length, GRIMHOLDI_LANE_MAX, configure,
@@ -48,5 +88,6 @@ int main()
           == GRIMHOLDI_NOT_NOW);
     CHECK(grimholdi_tick(area, length).number == GRIMHOLDI_DONE);
     CHECK(grimholdi_bus_reset(area, length).number == GRIMHOLDI_DONE);
-    return check_summary("header in C++");
+    record_and_replay(area, length);
+    return check_summary("headers in C++");
 }

@@ -213,6 +213,16 @@ static int is_held(const uint8_t *buffer)
     return buffer[STATUS] == PENDING || buffer[STATUS] == READY;
 }
 
+uint8_t INPLACE(active)(const uint8_t *area)
+{
+    uint8_t active = 0;
+    uint32_t i;
+
+    for (i = 0; i < area[BUFFERS]; i++)
+        active += is_held(area + buffer_at(area, i)) ? 1 : 0;
+    return active;
+}
+
 /* How many buffers one lane may hold. */
 static uint32_t limit(const uint8_t *area)
 {

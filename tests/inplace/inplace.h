@@ -1,6 +1,7 @@
 /*
- * The calls of grimholdi.h as inplace.c defines them: under inplace_ names, or
- * under the library's own names if INPLACE_AS_LIBRARY is defined.
+ * The calls of grimholdi.h as inplace.c and recording.c define them: under
+ * inplace_ names, or under the library's own names if INPLACE_AS_LIBRARY is
+ * defined.
  */
 
 #ifndef INPLACE_H
@@ -75,5 +76,21 @@ grimholdi_reason INPLACE(why_line_event)(const uint8_t *area, size_t area_len,
                                          uint32_t event, uint32_t port);
 grimholdi_reason INPLACE(why_tick)(const uint8_t *area, size_t area_len);
 grimholdi_reason INPLACE(why_bus_reset)(const uint8_t *area, size_t area_len);
+
+uint8_t INPLACE(block_start)(uint8_t *block, size_t block_len,
+                             uint32_t number);
+uint8_t INPLACE(block_add)(uint8_t *block, size_t block_len,
+                           const uint8_t *record, size_t record_len);
+uint8_t INPLACE(block_finish)(uint8_t *block, size_t block_len);
+grimholdi_replayed INPLACE(replay_block)(uint8_t *area, size_t area_len,
+                                         uint32_t place, const uint8_t *block,
+                                         size_t block_len, uint8_t *answers,
+                                         size_t answers_len);
+
+/*
+ * What recording.c asks of inplace.c beside the calls: how many buffers are
+ * pending or ready.  The area is taken.
+ */
+uint8_t INPLACE(active)(const uint8_t *area);
 
 #endif

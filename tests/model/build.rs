@@ -7,7 +7,7 @@ use std::env;
 use std::path::Path;
 use std::process::Command;
 
-const ENTRIES: [&str; 20] = [
+const ENTRIES: [&str; 24] = [
     "grimholdi_area_length",
     "grimholdi_new",
     "grimholdi_control",
@@ -28,6 +28,10 @@ const ENTRIES: [&str; 20] = [
     "grimholdi_why_line_event",
     "grimholdi_why_tick",
     "grimholdi_why_bus_reset",
+    "grimholdi_block_start",
+    "grimholdi_block_add",
+    "grimholdi_block_finish",
+    "grimholdi_replay_block",
 ];
 
 fn main() {

@@ -10,6 +10,9 @@
  *   poll, status, tick  that call; status is GetPortStatus
  *   why_start           the reason of a start-split of lane 1: the limit
  *   why_poll            the reason of a poll: the change bits
+ *   block_add           a start-split's record, into a block that holds one
+ *   replay_block        a block of ten calls: two 64-byte bulk transactions IN
+ *                       of four calls each, a poll and a tick
  *
  * All ports are enabled with change bits set.  The calls that are measured are
  * made in lane 0, which holds the first buffer.  All others hold a ready
@@ -17,6 +20,8 @@
  */
 
 #include "inplace.h"
+
+#include "grimholdi_record.h"
 
 #include <stdio.h>
 #include <stdlib.h>
@@ -51,20 +56,30 @@ typedef struct {
                                             const uint8_t *, size_t);
     grimholdi_reason (*why_poll)(const uint8_t *, size_t, uint32_t,
                                      size_t);
+    uint8_t (*block_start)(uint8_t *, size_t, uint32_t);
+    uint8_t (*block_add)(uint8_t *, size_t, const uint8_t *, size_t);
+    uint8_t (*block_finish)(uint8_t *, size_t);
+    grimholdi_replayed (*replay_block)(uint8_t *, size_t, uint32_t,
+                                       const uint8_t *, size_t, uint8_t *,
+                                       size_t);
 } hub_calls;
 
 static const hub_calls library_calls = {
     grimholdi_area_length, grimholdi_new, grimholdi_control, grimholdi_poll,
     grimholdi_start_split, grimholdi_complete_split, grimholdi_launch,
     grimholdi_deliver, grimholdi_line_event, grimholdi_tick,
-    grimholdi_why_start_split, grimholdi_why_poll
+    grimholdi_why_start_split, grimholdi_why_poll,
+    grimholdi_block_start, grimholdi_block_add, grimholdi_block_finish,
+    grimholdi_replay_block
 };
 
 static const hub_calls inplace_calls = {
     inplace_area_length, inplace_new, inplace_control, inplace_poll,
     inplace_start_split, inplace_complete_split, inplace_launch,
     inplace_deliver, inplace_line_event, inplace_tick,
-    inplace_why_start_split, inplace_why_poll
+    inplace_why_start_split, inplace_why_poll,
+    inplace_block_start, inplace_block_add, inplace_block_finish,
+    inplace_replay_block
 };
 
 static const hub_calls *calls;
@@ -72,6 +87,9 @@ static uint8_t area[GRIMHOLDI_AREA_LENGTH_MAX];
 static size_t area_len;
 static uint8_t reply[GRIMHOLDI_REPLY_LENGTH];
 static uint8_t payload[GRIMHOLDI_PAYLOAD_MAX];
+static uint8_t block[GRIMHOLDI_BLOCK_LENGTH];
+static uint8_t record[GRIMHOLDI_RECORD_SPACE];
+static uint8_t answers[GRIMHOLDI_ANSWERS_LENGTH];
 static uint32_t ports;
 static uint32_t buffers;
 
@@ -88,6 +106,14 @@ static void expect_kind(grimholdi_reason reason, uint8_t kind)
 {
     if (reason.kind != kind) {
         fprintf(stderr, "speed: reason %d instead of %d\n", reason.kind, kind);
+        exit(1);
+    }
+}
+
+static void expect_done(uint8_t number)
+{
+    if (number != GRIMHOLDI_DONE) {
+        fprintf(stderr, "speed: block call answered %d\n", number);
         exit(1);
     }
 }
@@ -178,7 +204,7 @@ static int is(const char *word, const char *other)
 /* What to measure: one of the stages, or one of these. */
 enum {
     TRANSACTION = STAGES, RESTORE, POLL, STATUS, TICK, EXPLAIN_START,
-    EXPLAIN_POLL, UNKNOWN
+    EXPLAIN_POLL, ADD, REPLAY, UNKNOWN
 };
 
 static int named(const char *what)
@@ -194,7 +220,8 @@ static int named(const char *what)
         {"in-complete", COMPLETE}, {"out-complete", COMPLETE},
         {"restore", RESTORE},     {"poll", POLL},
         {"status", STATUS},       {"tick", TICK},
-        {"why_start", EXPLAIN_START}, {"why_poll", EXPLAIN_POLL}
+        {"why_start", EXPLAIN_START}, {"why_poll", EXPLAIN_POLL},
+        {"block_add", ADD},       {"replay_block", REPLAY}
     };
     size_t i;
 
@@ -262,6 +289,65 @@ static void explain_polls(long loops)
                     GRIMHOLDI_WHY_CHANGES);
 }
 
+/* The record of one of the four calls of a transaction IN. */
+static size_t record_stage(int which)
+{
+    switch (which) {
+    case START:
+        return grimholdi_record_start_split(record, sizeof record, LANE,
+                                            GRIMHOLDI_PID_IN,
+                                            GRIMHOLDI_TRANSFER_BULK, 0, 0,
+                                            ADDRESS, ENDPOINT, NULL, 0);
+    case LAUNCH:
+        return grimholdi_record_launch(record, sizeof record, sizeof reply);
+    case DELIVER:
+        return grimholdi_record_deliver(record, sizeof record,
+                                        GRIMHOLDI_RESULT_DATA0, payload,
+                                        sizeof payload);
+    default:
+        return grimholdi_record_complete_split(record, sizeof record, LANE,
+                                               ADDRESS, ENDPOINT,
+                                               GRIMHOLDI_DIRECTION_IN,
+                                               sizeof reply);
+    }
+}
+
+static void add(size_t record_len)
+{
+    expect_done(calls->block_add(block, sizeof block, record, record_len));
+}
+
+/* Bytes 2 and 3 of the block are the count. */
+static void add_records(long loops)
+{
+    const size_t length = record_stage(START);
+
+    expect_done(calls->block_start(block, sizeof block, 1));
+    add(length);
+    while (loops-- > 0) {
+        block[2] = (uint8_t)length;
+        add(length);
+    }
+}
+
+static void replay_blocks(long loops)
+{
+    int i;
+
+    expect_done(calls->block_start(block, sizeof block, 1));
+    for (i = 0; i < 2 * STAGES; i++)
+        add(record_stage(i % STAGES));
+    add(grimholdi_record_poll(record, sizeof record, LANE, sizeof reply));
+    add(grimholdi_record_tick(record, sizeof record));
+    expect_done(calls->block_finish(block, sizeof block));
+    while (loops-- > 0)
+        if (calls->replay_block(area, area_len, 1, block, sizeof block,
+                                answers, sizeof answers).answered != 2) {
+            fprintf(stderr, "speed: not replayed\n");
+            exit(1);
+        }
+}
+
 int main(int argc, char **argv)
 {
     const int kind = argc == 6 ? named(argv[2]) : UNKNOWN;
@@ -284,6 +370,10 @@ int main(int argc, char **argv)
         explain_starts(loops);
     else if (kind == EXPLAIN_POLL)
         explain_polls(loops);
+    else if (kind == ADD)
+        add_records(loops);
+    else if (kind == REPLAY)
+        replay_blocks(loops);
     else
         measure(kind, out, loops);
     return 0;

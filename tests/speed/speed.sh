@@ -1,5 +1,5 @@
 #!/bin/sh
-# Instructions per call, for the library and for inplace.c, by callgrind.
+# Instructions per call, for the library and for the C in place, by callgrind.
 # Each number is the difference of two runs of a loop, divided by the difference
 # of their loop counts.  It includes the loop's own few instructions.
 #
@@ -17,12 +17,12 @@ many=3000
 sizes='4:2 7:4'
 calls='in in-start in-launch in-deliver in-complete
 out out-start out-launch out-deliver out-complete
-poll status tick why_start why_poll restore'
+poll status tick why_start why_poll block_add replay_block restore'
 
 mkdir -p "$out"
 ${CC:-cc} -std=c99 -O2 -Wall -Wextra -Werror -pedantic \
     -I"$root/include" -I"$root/tests/inplace" \
-    "$root/tests/speed/speed.c" "$root/tests/inplace/inplace.c" \
+    "$root/tests/speed/speed.c" "$root"/tests/inplace/*.c \
     "$library" ${LDLIBS:-} -o "$out/speed"
 
 for side in library inplace; do
@@ -76,4 +76,5 @@ END {
     }
     print "in, out: a 64-byte bulk transaction through its four calls; status: GetPortStatus"
     print "why_start: the reason of a start-split, the limit; why_poll: the reason of a poll, its change bits"
+    print "block_add: a start-split added to a block with one record; replay_block: ten calls, two transactions IN, a poll and a tick"
 }' "$out/counts"

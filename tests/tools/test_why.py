@@ -13,22 +13,28 @@ import subprocess
 import sys
 import tempfile
 
+from call_records import WORDS, record_of
 import why_areas
 import why_numbers  # adds its cases to CASES
 import why_reasons  # adds its cases to CASES
 from why_cases import CASES
+from why_records import BAD_RECORD_LINES, BAD_RECORDS, LANE_1
 from why_refused import BAD_AREAS, BAD_CALLS, BAD_LINES
 
 HELP = """\
 why [OPTIONS] FILE CALL
+why [OPTIONS] --record RECORD FILE
   Says why the hub whose area is in FILE (-: standard input)
-  answers the call as it does.  FILE is only read.
+  answers the call as it does.  Files are only read.
 
-  --room N  reply space of the call, 0 to 1024 bytes; default 64
-  --raw     one line of numbers: answer, kind, value and seven
-            bytes of change bits
-  --state   the state alone, without a call
-  --help    this text
+  --room N         reply space of the call, 0 to 1024 bytes;
+                   default 64
+  --record RECORD  the call is the record in the file RECORD
+                   (-: standard input)
+  --raw            one line of numbers: answer, kind, value and
+                   seven bytes of change bits
+  --state          the state alone, without a call
+  --help           this text
 
 Calls:
   control LANE SETUP
@@ -41,13 +47,13 @@ Calls:
   tick
   bus-reset
 
-Exit status: 0 explained, 1 the area is not read or is refused,
-2 bad words.
+Exit status: 0 explained, 1 the area or the record is not read
+or is refused, 2 bad words.
 """
 
 
 class Runs:
-    """Runs of the tool in a directory with the file hub.area."""
+    """Runs of the tool in a directory with hub.area and call.rec."""
 
     def __init__(self, command, directory):
         self.command = command
@@ -55,15 +61,20 @@ class Runs:
         self.runs = 0
         self.failed = 0
 
+    def write(self, name, content):
+        path = os.path.join(self.directory, name)
+        with open(path, "wb") as file:
+            file.write(content)
+        return path
+
     def compare(self, words, area, status, out, err, given=None, to=None,
-                last=0):
+                last=0, record=LANE_1):
         """Compares one run, or the last lines of its output.
 
         The area's file must stay as it is.
         """
-        path = os.path.join(self.directory, "hub.area")
-        with open(path, "wb") as file:
-            file.write(area)
+        path = self.write("hub.area", area)
+        self.write("call.rec", record)
         run = subprocess.run(self.command + words, cwd=self.directory,
                              input=given, stdout=to or subprocess.PIPE,
                              stderr=subprocess.PIPE, check=False)
@@ -88,6 +99,65 @@ def explained(runs):
         runs.compare(options + ["hub.area"] + words, area, 0, text, "")
         runs.compare(options + ["--raw", "hub.area"] + words, area, 0,
                      raw + "\n", "")
+
+
+def from_records(runs):
+    """The same cases; the call is a record, with its own reply space."""
+    options = ["--record", "call.rec"]
+    kinds = set()
+    for (area, state), words, call, lines, raw, room in CASES:
+        record = record_of(words, 64 if room is None else int(room, 0))
+        kinds.add(words[0].lower())
+        text = state + "call: " + call + "\n" + "\n".join(lines) + "\n"
+        runs.compare(options + ["hub.area"], area, 0, text, "", record=record)
+        runs.compare(options + ["--raw", "hub.area"], area, 0, raw + "\n", "",
+                     record=record)
+    if kinds != set(WORDS):
+        runs.failed += 1
+        print("records of %s" % sorted(kinds))
+
+
+def large_records(runs):
+    """Reply spaces and payloads that words can't give."""
+    area, state = why_areas.SMALL, why_areas.SMALL_STATE
+    options = ["--record", "call.rec", "hub.area"]
+    for room in (1025, 65536, 2 ** 32 - 1):
+        runs.compare(options, area, 0, state
+                     + "call: complete-split, lane 1, address 6, endpoint 1, "
+                     "direction IN, reply space of %d bytes\n"
+                     "reply: 00 01 02 03 04 05 06 07 08 09 0a 0b 0c 0d 0e 0f\n"
+                     "reply: 10 11 12 13\n"
+                     "DATA: DATA1, 20 bytes; no reason is given for this "
+                     "answer\n" % room, "",
+                     record=record_of("complete-split 1 6 1 IN".split(), room))
+    for count in (1025, 65535):
+        runs.compare(options, area, 0, state
+                     + "call: deliver, result ACK, payload of %d bytes%s ..\n"
+                     "OUTSIDE: the payload has %d bytes; ACK has none\n" % (
+                         count, " ab" * 16, count), "",
+                     record=record_of(["deliver", "ACK", "ab" * count]))
+
+
+def bad_records(runs):
+    area = why_areas.BENCH
+    for record, fault in BAD_RECORDS:
+        for option in ([], ["--raw"]):
+            runs.compare(option + ["--record", "call.rec", "hub.area"], area,
+                         1, "", "why: call.rec: " + fault + "\n",
+                         record=record)
+    for words, fault in BAD_RECORD_LINES:
+        runs.compare(words, area, 2, "", "why: " + fault + "\n")
+    runs.compare(["--record", "no.rec", "hub.area"], area, 1, "",
+                 "why: no.rec: No such file or directory\n")
+    runs.compare(["--record", ".", "hub.area"], area, 1, "",
+                 "why: .: Is a directory\n")
+    runs.compare(["--record", "-", "hub.area"], area, 1, "",
+                 "why: standard input: tag 0 is no call; tags are 1 to 9\n",
+                 given=b"\0")
+    runs.compare(["--raw", "--record", "-", "hub.area"], area, 0,
+                 "0 0 0 0 0 0 0 0 0 0\n", "", given=b"\x08")
+    runs.compare(["--record", "call.rec", "no.area"], area, 1, "",
+                 "why: no.area: No such file or directory\n")
 
 
 def other_forms(runs):
@@ -122,7 +192,7 @@ def documented(runs, area):
     with open(path) as file:
         examples = re.findall(r"```\n\$ why (.*)\n((?:.+\n)+?)```\n",
                               file.read())
-    if len(examples) != 3:
+    if len(examples) != 4:
         runs.failed += 1
         print("docs/WHY.md has %d examples" % len(examples))
     for words, out in examples:
@@ -171,6 +241,9 @@ def main():
     with tempfile.TemporaryDirectory() as directory:
         runs = Runs(command, directory)
         explained(runs)
+        from_records(runs)
+        large_records(runs)
+        bad_records(runs)
         other_forms(runs)
         example(runs, nak_area)
         documented(runs, nak_area)

@@ -83,9 +83,9 @@ BAD_LINES = [
     (["--raw"], "no file is given; why --help says more"),
     (["--state"], "no file is given; why --help says more"),
     (["--rwa", "hub.area", "tick"], "'--rwa' is no option; options are "
-     "--room N, --raw, --state, --help"),
+     "--room N, --record RECORD, --raw, --state, --help"),
     (["-r", "hub.area", "tick"], "'-r' is no option; options are "
-     "--room N, --raw, --state, --help"),
+     "--room N, --record RECORD, --raw, --state, --help"),
     (["--room"], "--room lacks its number"),
     (["--room", "hub.area", "tick"],
      "--room: 'hub.area' is no reply space; " + NUMBERS),
@@ -123,9 +123,9 @@ BAD_AREAS = [
     at({1: 5}, "byte 1: the hub has 5 buffers; 2 to 4 are permitted"),
     at({1: 4}, "240 bytes; an area of 4 ports and 4 buffers has 312"),
     at({4: 0x01},
-       "byte 4: removable is 0x01; bit 0 and the bits above 4 are 0"),
+       "byte 4: removable is 0x01; bit 0 and the bits above 4 have to be 0"),
     at({4: 0x20},
-       "byte 4: removable is 0x20; bit 0 and the bits above 4 are 0"),
+       "byte 4: removable is 0x20; bit 0 and the bits above 4 have to be 0"),
     at({5: 2}, "byte 5: configured is 2; 0 and 1 are permitted"),
     at({6: 3}, "byte 6: the low side is 3; 0 to 2 are permitted"),
     at({7: 1}, "byte 7: buffer 1 is named and no transaction runs; 0 is "

@@ -1,13 +1,9 @@
 #include "area_fault.h"
 
+#include "../words/text.h"
 #include "area_layout.h"
 #include "area_view.h"
 #include "transactions.h"
-
-static const char *plural(unsigned count)
-{
-    return count == 1 ? "" : "s";
-}
 
 /* The first two bytes and the length. */
 static int size_fault(const uint8_t *area, size_t length,
@@ -17,8 +13,8 @@ static int size_fault(const uint8_t *area, size_t length,
     unsigned ports, buffers, due;
 
     if (length <= HEAD_BUFFERS)
-        return fault_says(fault, "%u byte%s; an area has 156 to 324", given,
-                          plural(given));
+        return fault_says(fault, BYTE_COUNT "; an area has 156 to 324",
+                          BYTE_COUNT_OF(length));
     ports = area[HEAD_PORTS];
     buffers = area[HEAD_BUFFERS];
     if (ports < GRIMHOLDI_PORTS_MIN || ports > GRIMHOLDI_PORTS_MAX)
@@ -45,8 +41,8 @@ static int head_fault(const uint8_t *area, char fault[FAULT_LENGTH])
 
     if (removable & 1 || removable >> (ports + 1) != 0)
         return fault_says(fault, "byte %u: removable is 0x%02x; bit 0 and the "
-                          "bits above %u are 0", HEAD_REMOVABLE, removable,
-                          ports);
+                          "bits above %u have to be 0", HEAD_REMOVABLE,
+                          removable, ports);
     if (area[HEAD_CONFIGURED] > 1)
         return fault_says(fault, "byte %u: configured is %u; 0 and 1 are "
                           "permitted", HEAD_CONFIGURED, area[HEAD_CONFIGURED]);
@@ -187,9 +183,10 @@ static int result_fault(const uint8_t *buffer, unsigned number, unsigned at,
                           name_of(result_names, result),
                           name_of(pid_names, pid), suiting_results(pid));
     if (length < lengths->least || length > lengths->most)
-        return fault_says(fault, "byte %u: buffer %u has a payload of %u "
-                          "byte%s; %s has %s", at + BUFFER_PAYLOAD_LENGTH,
-                          number, length, plural(length),
+        return fault_says(fault, "byte %u: buffer %u has a payload of "
+                          BYTE_COUNT "; %s has %s",
+                          at + BUFFER_PAYLOAD_LENGTH, number,
+                          BYTE_COUNT_OF(length),
                           is_pending ? name_of(pid_names, pid)
                                      : name_of(result_names, result),
                           lengths->text);

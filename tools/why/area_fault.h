@@ -6,7 +6,7 @@
 #include <stddef.h>
 #include <stdint.h>
 
-#include "fault.h"
+#include "../words/fault.h"
 
 /*
  * 1, and the fault names the first thing that docs/AREA.md doesn't permit; 0

@@ -5,7 +5,7 @@
 
 #include "grimholdi.h"
 
-#include "names.h"
+#include "../words/names.h"
 
 enum { LOW_SIDE_FREE, LOW_SIDE_RUNNING, LOW_SIDE_ABANDONED };
 

@@ -2,8 +2,8 @@
 
 #include <stdio.h>
 
-#include "requests.h"
-#include "state_text.h"
+#include "../words/phrases.h"
+#include "../words/requests.h"
 
 enum { LINE_BYTES = 16 };
 
@@ -19,29 +19,33 @@ static void print_number(call_field field, uint32_t number)
         printf(", %s %lu", form->name, (unsigned long)number);
 }
 
+/* As many as stand in a line. */
+static size_t first_of(size_t length)
+{
+    return length < LINE_BYTES ? length : LINE_BYTES;
+}
+
 /* The first bytes, and .. for more. */
 static void print_bytes(const char *what, const uint8_t *bytes, size_t length)
 {
-    size_t i;
-
     printf(", ");
     print_count(what, length);
-    for (i = 0; i < length && i < LINE_BYTES; i++)
-        printf(" %02x", bytes[i]);
+    print_hex(bytes, first_of(length));
     printf("%s", length > LINE_BYTES ? " .." : "");
 }
 
-/* A setup of eight bytes, if the hub has such a request. */
-static void print_request(const uint8_t *setup)
+static void print_setup(const uint8_t *setup, size_t length)
 {
-    request read = read_request(setup);
+    request read;
 
-    if (read.form == NULL)
+    print_bytes("setup", setup, length);
+    if (length != GRIMHOLDI_SETUP_LENGTH)
         return;
-    printf(": %s, ", read.form->name);
-    print_field("wValue", read.value);
-    print_field(", wIndex", read.index);
-    print_field(", wLength", read.length);
+    read = read_request(setup);
+    if (read.form != NULL) {
+        printf(": ");
+        print_request(&read);
+    }
 }
 
 void print_call(const call *call_of)
@@ -58,11 +62,8 @@ void print_call(const call *call_of)
     }
     if (form->bytes == BYTES_PAYLOAD)
         print_bytes("payload", call_of->bytes, call_of->bytes_len);
-    if (form->bytes == BYTES_SETUP) {
-        print_bytes("setup", call_of->bytes, call_of->bytes_len);
-        if (call_of->bytes_len == GRIMHOLDI_SETUP_LENGTH)
-            print_request(call_of->bytes);
-    }
+    if (form->bytes == BYTES_SETUP)
+        print_setup(call_of->bytes, call_of->bytes_len);
     printf("\n");
 }
 
@@ -70,11 +71,9 @@ void print_reply(const uint8_t *bytes, size_t length)
 {
     size_t i;
 
-    for (i = 0; i < length; i++) {
-        if (i % LINE_BYTES == 0)
-            printf("%sreply:", i == 0 ? "" : "\n");
-        printf(" %02x", bytes[i]);
-    }
-    if (length > 0)
+    for (i = 0; i < length; i += LINE_BYTES) {
+        printf("reply:");
+        print_hex(bytes + i, first_of(length - i));
         printf("\n");
+    }
 }

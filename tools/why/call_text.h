@@ -3,7 +3,7 @@
 #ifndef CALL_TEXT_H
 #define CALL_TEXT_H
 
-#include "call.h"
+#include "../words/call.h"
 
 /* "call: poll, lane 0, reply space of 64 bytes" */
 void print_call(const call *call_of);

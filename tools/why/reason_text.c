@@ -2,8 +2,10 @@
 
 #include <stdio.h>
 
+#include "../words/phrases.h"
+#include "../words/requests.h"
+#include "../words/text.h"
 #include "refusal_text.h"
-#include "requests.h"
 #include "state_text.h"
 
 static unsigned limit_of(const area_view *view)
@@ -123,14 +125,10 @@ static void print_answer(const call *call_of, const grimholdi_answer *answer)
     if (call_of->kind == CALL_COMPLETE_SPLIT)
         printf("%s, ", name_of(result_names, answer->pid));
     if (call_of->kind == CALL_LAUNCH) {
-        printf("lane %u ", answer->lane);
-        print_key(answer->address, answer->endpoint, answer->direction);
-        printf(", %s %s, %s speed, toggle %u, ",
-               name_of(pid_names, answer->pid),
-               name_of(transfer_names, answer->transfer),
-               name_of(speed_names, answer->low_speed), answer->toggle);
+        print_launched(answer);
+        printf(", ");
     }
-    printf("%u byte%s; ", answer->length, answer->length == 1 ? "" : "s");
+    printf(BYTE_COUNT "; ", BYTE_COUNT_OF(answer->length));
 }
 
 void print_reason(const area_view *view, const call *call_of,

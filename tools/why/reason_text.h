@@ -4,7 +4,7 @@
 #define REASON_TEXT_H
 
 #include "area_view.h"
-#include "call.h"
+#include "../words/call.h"
 
 /* The view is of the area before the call. */
 void print_reason(const area_view *view, const call *call_of,

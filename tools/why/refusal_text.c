@@ -2,6 +2,7 @@
 
 #include <stdio.h>
 
+#include "../words/text.h"
 #include "state_text.h"
 #include "transactions.h"
 
@@ -35,8 +36,8 @@ static int length_outside(const length_rule *rule, const char *of,
 {
     if (rule == NULL || (length >= rule->least && length <= rule->most))
         return 0;
-    printf("OUTSIDE: the payload has %u byte%s; %s has %s\n",
-           (unsigned)length, length == 1 ? "" : "s", of, rule->text);
+    printf("OUTSIDE: the payload has " BYTE_COUNT "; %s has %s\n",
+           BYTE_COUNT_OF(length), of, rule->text);
     return 1;
 }
 
@@ -57,8 +58,8 @@ static int setup_outside(size_t length)
 {
     if (length == GRIMHOLDI_SETUP_LENGTH)
         return 0;
-    printf("OUTSIDE: the setup has %u byte%s; it takes 8\n",
-           (unsigned)length, length == 1 ? "" : "s");
+    printf("OUTSIDE: the setup has " BYTE_COUNT "; it takes 8\n",
+           BYTE_COUNT_OF(length));
     return 1;
 }
 
@@ -146,8 +147,8 @@ void print_refusal(unsigned number, const area_view *view, const call *call_of)
         print_outside(view, call_of);
         break;
     case GRIMHOLDI_NO_SPACE:
-        printf("NO_SPACE: the reply space has %u byte%s; 64 are needed\n",
-               (unsigned)call_of->room, call_of->room == 1 ? "" : "s");
+        printf("NO_SPACE: the reply space has " BYTE_COUNT "; 64 are "
+               "needed\n", BYTE_COUNT_OF(call_of->room));
         break;
     default:
         print_not_now(view, call_of);

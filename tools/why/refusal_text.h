@@ -4,7 +4,7 @@
 #define REFUSAL_TEXT_H
 
 #include "area_view.h"
-#include "call.h"
+#include "../words/call.h"
 
 /*
  * `number` is the reason's.  One line, or for OUTSIDE one for each number or

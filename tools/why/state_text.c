@@ -2,6 +2,9 @@
 
 #include <stdio.h>
 
+#include "../words/phrases.h"
+#include "../words/text.h"
+
 void print_port_state(const port_view *port)
 {
     printf("%s", name_of(state_names, port->state));
@@ -21,12 +24,6 @@ void print_changes(unsigned changes)
         }
 }
 
-void print_key(unsigned address, unsigned endpoint, unsigned direction)
-{
-    printf("(%u,%u %s)", address, endpoint,
-           name_of(direction_names, direction));
-}
-
 void print_low_side(const area_view *view)
 {
     switch (view->low_side) {
@@ -42,21 +39,12 @@ void print_low_side(const area_view *view)
     }
 }
 
-void print_count(const char *what, size_t count)
-{
-    if (count == 0)
-        printf("no %s", what);
-    else
-        printf("%s of %u byte%s", what, (unsigned)count,
-               count == 1 ? "" : "s");
-}
-
 static void print_port(const port_view *port, unsigned number)
 {
     printf("port %u: ", number);
     print_port_state(port);
     if (port->state == STATE_RESETTING || port->state == STATE_RESUMING)
-        printf(", %u tick%s", port->ticks, port->ticks == 1 ? "" : "s");
+        printf(", %u tick%s", port->ticks, plural(port->ticks));
     if (port->over_current)
         printf(", over-current");
     if (port->changes != 0) {
@@ -92,7 +80,7 @@ void print_state(const area_view *view)
     unsigned i;
 
     printf("hub: %u port%s, %u buffers, %s, ", view->ports,
-           view->ports == 1 ? "" : "s", view->buffers,
+           plural(view->ports), view->buffers,
            view->configured ? "configured" : "unconfigured");
     print_low_side(view);
     printf("\n");

@@ -14,13 +14,7 @@ void print_port_state(const port_view *port);
 /* "C_PORT_CONNECTION, C_PORT_RESET", by bit. */
 void print_changes(unsigned changes);
 
-/* "(5,1 IN)" */
-void print_key(unsigned address, unsigned endpoint, unsigned direction);
-
 /* "the low side is free", or by what it is occupied. */
 void print_low_side(const area_view *view);
-
-/* "no payload", "payload of 1 byte" */
-void print_count(const char *what, size_t count);
 
 #endif

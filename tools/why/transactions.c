@@ -3,7 +3,8 @@
 #include <stddef.h>
 
 #include "grimholdi.h"
-#include "names.h"
+
+#include "../words/names.h"
 
 enum { SUITING_MAX = 5 };
 

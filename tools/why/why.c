@@ -1,41 +1,37 @@
 /*
  * Says why a hub answers a call as it does: reads an area from a file, takes
- * one call from the command line, and prints state, call, answer and reason.
- * docs/WHY.md has the words and examples.
+ * one call from the command line or from a record, and prints state, call,
+ * answer and reason.  docs/WHY.md has the words and examples.
  */
 
 #include <errno.h>
-#include <stdarg.h>
 #include <stdio.h>
 #include <string.h>
 
+#include "../words/call_words.h"
+#include "../words/complain.h"
+#include "../words/files.h"
+#include "../words/record.h"
+#include "../words/text.h"
 #include "area_fault.h"
 #include "area_view.h"
+#include "call_make.h"
 #include "call_text.h"
-#include "call_words.h"
 #include "reason_text.h"
 #include "state_text.h"
 
-enum { EXPLAINED, BAD_AREA, BAD_WORDS }; /* exit statuses */
+enum { EXPLAINED, BAD_FILE, BAD_WORDS }; /* exit statuses */
 
 typedef struct {
     int raw;
     int state_only;
     int help;
+    int has_room;
     size_t room;
+    const char *record; /* a file, or NULL: the call is in words */
 } options;
 
-static int complain(int status, const char *format, ...)
-{
-    va_list arguments;
-
-    fputs("why: ", stderr);
-    va_start(arguments, format);
-    vfprintf(stderr, format, arguments);
-    va_end(arguments);
-    fputs("\n", stderr);
-    return status;
-}
+const char program_name[] = "why";
 
 static void print_help(void)
 {
@@ -43,21 +39,25 @@ static void print_help(void)
     unsigned i;
 
     printf("why [OPTIONS] FILE CALL\n"
+           "why [OPTIONS] --record RECORD FILE\n"
            "  Says why the hub whose area is in FILE (-: standard input)\n"
-           "  answers the call as it does.  FILE is only read.\n\n"
-           "  --room N  reply space of the call, 0 to %d bytes; default %d\n"
-           "  --raw     one line of numbers: answer, kind, value and seven\n"
-           "            bytes of change bits\n"
-           "  --state   the state alone, without a call\n"
-           "  --help    this text\n\n"
+           "  answers the call as it does.  Files are only read.\n\n"
+           "  --room N         reply space of the call, 0 to %d bytes;\n"
+           "                   default %d\n"
+           "  --record RECORD  the call is the record in the file RECORD\n"
+           "                   (-: standard input)\n"
+           "  --raw            one line of numbers: answer, kind, value and\n"
+           "                   seven bytes of change bits\n"
+           "  --state          the state alone, without a call\n"
+           "  --help           this text\n\n"
            "Calls:\n", CALL_ROOM_MAX, GRIMHOLDI_REPLY_LENGTH);
     for (i = 0; i < CALLS; i++) {
         call_form_words((call_kind)i, form);
         printf("  %s\n", form);
     }
     printf("\n"
-           "Exit status: 0 explained, 1 the area is not read or is refused,\n"
-           "2 bad words.\n");
+           "Exit status: 0 explained, 1 the area or the record is not read\n"
+           "or is refused, 2 bad words.\n");
 }
 
 /* The room's number; 0 and a complaint where it is bad. */
@@ -72,7 +72,20 @@ static int read_room(const char *word, options *read)
         return complain(0, "--room: %s", fault);
     if (room > CALL_ROOM_MAX)
         return complain(0, "--room: %s is above %d", word, CALL_ROOM_MAX);
+    read->has_room = 1;
     read->room = room;
+    return 1;
+}
+
+static int options_agree(const options *of)
+{
+    if (of->raw && of->state_only)
+        return complain(0, "--raw and --state exclude each other");
+    if (of->record != NULL && of->state_only)
+        return complain(0, "--record and --state exclude each other");
+    if (of->record != NULL && of->has_room)
+        return complain(0, "--record and --room exclude each other: a record "
+                        "has its own reply space");
     return 1;
 }
 
@@ -88,38 +101,64 @@ static int read_options(char ***words, options *read)
             read->state_only = 1;
         else if (strcmp(*word, "--help") == 0)
             read->help = 1;
-        else if (strcmp(*word, "--room") != 0)
+        else if (strcmp(*word, "--record") == 0) {
+            read->record = *++word;
+            if (read->record == NULL)
+                return complain(0, "--record lacks its file");
+        } else if (strcmp(*word, "--room") != 0)
             return complain(0, "'%s' is no option; options are --room N, "
-                            "--raw, --state, --help", *word);
+                            "--record RECORD, --raw, --state, --help", *word);
         else if (!read_room(*++word, read))
             return 0;
     *words = word;
-    if (read->raw && read->state_only)
-        return complain(0, "--raw and --state exclude each other");
-    return 1;
+    return options_agree(read);
+}
+
+/* Reads a file whole, up to `most` bytes; 0 and a complaint. */
+static int read_file(const char **name, uint8_t *bytes, size_t most,
+                     size_t *length)
+{
+    FILE *file = open_input(name);
+    int is_read;
+
+    if (file == NULL)
+        return 0;
+    is_read = read_input(file, bytes, most, length)
+              || complain(0, "%s: %s", *name, strerror(errno));
+    close_input(file);
+    return is_read;
 }
 
 /* Reads the area; 0 and a complaint where it can't be read or is too long. */
-static int read_area(const char *name, int is_standard,
+static int read_area(const char **name,
                      uint8_t area[GRIMHOLDI_AREA_LENGTH_MAX + 1],
                      size_t *length)
 {
-    FILE *file = is_standard ? stdin : fopen(name, "rb");
-    int error = 0;
-
-    if (file == NULL)
-        return complain(0, "%s: %s", name, strerror(errno));
-    *length = fread(area, 1, GRIMHOLDI_AREA_LENGTH_MAX + 1, file);
-    if (ferror(file))
-        error = errno;
-    if (!is_standard)
-        fclose(file);
-    if (error != 0)
-        return complain(0, "%s: %s", name, strerror(error));
+    if (!read_file(name, area, GRIMHOLDI_AREA_LENGTH_MAX + 1, length))
+        return 0;
     if (*length > GRIMHOLDI_AREA_LENGTH_MAX)
         return complain(0, "%s: more than %d bytes; an area has 156 to %d",
-                        name, GRIMHOLDI_AREA_LENGTH_MAX,
+                        *name, GRIMHOLDI_AREA_LENGTH_MAX,
                         GRIMHOLDI_AREA_LENGTH_MAX);
+    return 1;
+}
+
+/* The call of a file that holds one record; 0 and a complaint. */
+static int read_record_file(const char *name,
+                            uint8_t bytes[RECORD_LENGTH_MAX + 1], call *asked)
+{
+    char fault[FAULT_LENGTH];
+    size_t length, used;
+
+    if (!read_file(&name, bytes, RECORD_LENGTH_MAX + 1, &length))
+        return 0;
+    used = read_record(bytes, length, asked, fault);
+    if (used == 0)
+        return complain(0, "%s: %s", name, fault);
+    if (used < length)
+        return complain(0, "%s: tag %u, %s, has " BYTE_COUNT ", and more "
+                        "follow", name, bytes[0],
+                        call_forms[asked->kind].name, BYTE_COUNT_OF(used));
     return 1;
 }
 
@@ -168,37 +207,55 @@ static void explain(const uint8_t *area, size_t length, const call *call_of,
     print_reason(&view, call_of, &answer, &reason);
 }
 
+/* The call of the words or of the record; EXPLAINED, or what is wrong. */
+static int read_asked(char **words, size_t count, const options *of,
+                      uint8_t bytes[RECORD_LENGTH_MAX + 1], call *asked)
+{
+    char fault[FAULT_LENGTH];
+
+    if (of->state_only || of->record != NULL) {
+        if (count > 0)
+            return complain(BAD_WORDS, "'%s' is too much; %s", words[0],
+                            of->state_only ? "--state takes no call"
+                                           : "--record gives the call");
+        return of->state_only || read_record_file(of->record, bytes, asked)
+               ? EXPLAINED : BAD_FILE;
+    }
+    if (!read_call(words, count, bytes, asked, fault))
+        return complain(BAD_WORDS, "%s", fault);
+    asked->room = of->room;
+    return EXPLAINED;
+}
+
 /* `words` is the file and the call. */
 static int run(char **words, const options *of)
 {
+    static uint8_t bytes[RECORD_LENGTH_MAX + 1];
     uint8_t area[GRIMHOLDI_AREA_LENGTH_MAX + 1];
-    char fault[FAULT_LENGTH];
-    size_t length = 0, count = 0;
+    size_t length, count = 0;
     const char *name = words[0];
-    int is_standard;
     area_view view;
     call asked;
+    int status;
 
     if (name == NULL)
         return complain(BAD_WORDS, "no file is given; why --help says more");
+    if (of->record != NULL && is_standard_input(of->record)
+        && is_standard_input(name))
+        return complain(BAD_WORDS, "RECORD and FILE can't both be standard "
+                        "input");
     while (words[1 + count] != NULL)
         count++;
-    if (of->state_only && count > 0)
-        return complain(BAD_WORDS, "'%s' is too much; --state takes no call",
-                        words[1]);
-    if (!of->state_only && !read_call(words + 1, count, &asked, fault))
-        return complain(BAD_WORDS, "%s", fault);
-    is_standard = strcmp(name, "-") == 0;
-    if (is_standard)
-        name = "standard input";
-    if (!read_area(name, is_standard, area, &length)
+    status = read_asked(words + 1, count, of, bytes, &asked);
+    if (status != EXPLAINED)
+        return status;
+    if (!read_area(&name, area, &length)
         || !area_is_taken(name, area, length))
-        return BAD_AREA;
+        return BAD_FILE;
     if (of->state_only) {
         view = view_area(area);
         print_state(&view);
     } else {
-        asked.room = of->room;
         explain(area, length, &asked, of->raw);
     }
     return EXPLAINED;
@@ -206,7 +263,7 @@ static int run(char **words, const options *of)
 
 int main(int argc, char **argv)
 {
-    options of = {0, 0, 0, GRIMHOLDI_REPLY_LENGTH};
+    options of = {0, 0, 0, 0, GRIMHOLDI_REPLY_LENGTH, NULL};
     char **words = argv + (argc > 0);
     int status = EXPLAINED;
 
@@ -216,7 +273,5 @@ int main(int argc, char **argv)
         print_help();
     else
         status = run(words, &of);
-    if (fflush(stdout) != 0)
-        return complain(BAD_AREA, "standard output: %s", strerror(errno));
-    return status;
+    return output_is_written() ? status : BAD_FILE;
 }

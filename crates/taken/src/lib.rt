@@ -75,7 +75,7 @@ fn ports_fit(b: &[u8], n: usize, configured: bool) -> bool
 // ---- one buffer, 72 bytes
 
 // Zeros alone from a place on. No early end, so that the loop can go several bytes at a time.
-fn blank_from(b: &[u8], start: usize) -> bool
+pub fn blank_from(b: &[u8], start: usize) -> bool
     ensures { λ r. ⌜ r ≡ blank (drop start (now (b .entry))) ⌝ }
 {
     let mut ok = true;

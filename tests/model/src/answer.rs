@@ -40,4 +40,21 @@ impl Answer {
     pub fn data(bytes: &[u8]) -> Answer {
         Answer { number: DATA, bytes: bytes.to_vec(), ..Answer::default() }
     }
+
+    /// The answer as bytes: docs/CALLS.md, "An answer".
+    pub fn written(&self) -> Vec<u8> {
+        let head = [
+            self.number,
+            self.bytes.len() as u8,
+            self.pid,
+            self.transfer,
+            self.lane,
+            self.address,
+            self.endpoint,
+            self.direction,
+            self.low_speed,
+            self.toggle,
+        ];
+        [&head, self.bytes.as_slice()].concat()
+    }
 }

@@ -269,7 +269,7 @@ impl Chooser {
         }
     }
 
-    fn deliver(&mut self, hub: &Hub) -> Call {
+    pub fn deliver(&mut self, hub: &Hub) -> Call {
         let suiting: &[u32] = match hub.translator.running().map(|start| start.token) {
             Some(Token::In) => &[3, 3, 11, 11, 10, 14, 0],
             Some(Token::Out) => &[2, 2, 10, 14, 0],

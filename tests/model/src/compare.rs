@@ -255,7 +255,7 @@ fn raw(answer: &Answer) -> RawAnswer {
     }
 }
 
-fn equal<T: PartialEq + Debug>(part: &str, model: T, library: T) -> Result<(), String> {
+pub fn equal<T: PartialEq + Debug>(part: &str, model: T, library: T) -> Result<(), String> {
     if model == library {
         return Ok(());
     }

@@ -8,6 +8,7 @@ use crate::hub::{Call, Hub};
 use crate::lanes;
 use crate::port::{ClearFeature, Port, SetFeature, State};
 use crate::reason::Reason;
+use crate::recordings::Recordings;
 use crate::request::Request;
 use crate::situations::SITUATIONS;
 use crate::table::{Table, Unreachable, ANSWERS};
@@ -37,6 +38,7 @@ pub struct Coverage {
     crowded: Table,
     situations: Table,
     explained: Explained,
+    pub recordings: Recordings,
 }
 
 pub const PORT_COUNTS: [&str; 7] =
@@ -169,7 +171,7 @@ const UNREACHABLE_CHOICES: [Unreachable; 2] = [
     },
 ];
 
-const UNREACHABLE_ANSWERS: [Unreachable; 12] = [
+pub const UNREACHABLE_ANSWERS: [Unreachable; 12] = [
     Unreachable {
         rows: REQUESTS,
         columns: &["3", "4", "5", "8", "9"],
@@ -349,6 +351,7 @@ impl Coverage {
             crowded: Table::new("Crowded areas", lanes::LANES, BUFFER_COUNTS).showing_visits(),
             situations: Table::new("Situations", situation_rows, ["visits"]).showing_visits(),
             explained: Explained::new(),
+            recordings: Recordings::new(),
         }
     }
 
@@ -463,7 +466,8 @@ impl Coverage {
             &self.crowded,
             &self.situations,
         ];
-        tables.into_iter().chain(self.explained.tables()).collect()
+        let recordings = self.recordings.tables();
+        tables.into_iter().chain(self.explained.tables()).chain(recordings).collect()
     }
 
     /// The calls that were explained.

@@ -17,7 +17,7 @@ pub struct Hub {
 
 /// A call with any numbers, as the C caller makes it.  `space` is the length
 /// of the reply space.
-#[derive(Clone, Debug)]
+#[derive(Clone, Debug, PartialEq, Eq)]
 pub enum Call {
     Control { lane: u32, setup: Vec<u8>, space: usize },
     Poll { lane: u32, space: usize },
@@ -30,7 +30,7 @@ pub enum Call {
     BusReset,
 }
 
-#[derive(Clone, Debug)]
+#[derive(Clone, Debug, PartialEq, Eq)]
 pub struct StartNumbers {
     pub lane: u32,
     pub pid: u32,

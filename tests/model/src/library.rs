@@ -2,8 +2,10 @@
 
 use std::ptr;
 
+use crate::answer::Answer;
 use crate::hub::{Call, Hub, StartNumbers};
 use crate::reason::Reason;
+use crate::replay::History;
 
 /// `grimholdi_answer`.
 #[repr(C)]
@@ -30,6 +32,19 @@ pub struct RawReason {
     pub changes: [u8; 7],
 }
 
+/// `grimholdi_replayed`.
+#[repr(C)]
+#[derive(Clone, Copy, Debug, Default, PartialEq, Eq)]
+pub struct RawReplayed {
+    pub number: u8,
+    pub refusal: u8,
+    pub active: u8,
+    pub stored: u32,
+    pub answered: u32,
+    pub emptied: u32,
+    pub length: u32,
+}
+
 #[rustfmt::skip]
 extern "C" {
     fn grimholdi_area_length(ports: u32, buffers: u32) -> usize;
@@ -52,6 +67,10 @@ extern "C" {
     fn grimholdi_why_line_event(area: *const u8, area_len: usize, event: u32, port: u32) -> RawReason;
     fn grimholdi_why_tick(area: *const u8, area_len: usize) -> RawReason;
     fn grimholdi_why_bus_reset(area: *const u8, area_len: usize) -> RawReason;
+    fn grimholdi_block_start(block: *mut u8, block_len: usize, number: u32) -> u8;
+    fn grimholdi_block_add(block: *mut u8, block_len: usize, record: *const u8, record_len: usize) -> u8;
+    fn grimholdi_block_finish(block: *mut u8, block_len: usize) -> u8;
+    fn grimholdi_replay_block(area: *mut u8, area_len: usize, place: u32, block: *const u8, block_len: usize, answers: *mut u8, answers_len: usize) -> RawReplayed;
 }
 
 const GUARD: [u8; 16] = *b"\xA5\x5A\xC3\x3C\x96\x69\xF0\x0F\x1E\xE1\x2D\xD2\x4B\xB4\x87\x78";
@@ -100,6 +119,14 @@ pub struct Lent {
     pub area: Guarded,
     pub reply: Guarded,
     pub input: Guarded,
+}
+
+/// All memory that the replay of a block is lent.
+#[derive(Clone, PartialEq)]
+pub struct LentReplay {
+    pub area: Guarded,
+    pub block: Guarded,
+    pub answers: Guarded,
 }
 
 /// The numbers given to `grimholdi_new`.
@@ -189,10 +216,40 @@ pub trait Library {
         }
     }
 
+    fn block_start(&self, block: &mut Guarded, number: u32) -> u8 {
+        let (block, block_len) = block.lend();
+        unsafe { grimholdi_block_start(block, block_len, number) }
+    }
+
+    fn block_add(&self, block: &mut Guarded, record: &mut Guarded) -> u8 {
+        let (block, block_len) = block.lend();
+        let (record, record_len) = record.lend();
+        unsafe { grimholdi_block_add(block, block_len, record, record_len) }
+    }
+
+    fn block_finish(&self, block: &mut Guarded) -> u8 {
+        let (block, block_len) = block.lend();
+        unsafe { grimholdi_block_finish(block, block_len) }
+    }
+
+    fn replay_block(&self, lent: &mut LentReplay, place: u32) -> RawReplayed {
+        let (area, area_len) = lent.area.lend();
+        let (block, block_len) = lent.block.lend();
+        let (answers, answers_len) = lent.answers.lend();
+        unsafe {
+            grimholdi_replay_block(area, area_len, place, block, block_len, answers, answers_len)
+        }
+    }
+
     /// The reason that the model gives.  None is an area without a permitted
     /// hub.
     fn expected_reason(&self, hub: Option<&Hub>, call: &Call) -> Reason {
         Reason::of(hub, call)
+    }
+
+    /// What the model writes into the history of a replay.
+    fn note(&self, history: &mut History, call: &Call, answer: &Answer) {
+        history.note(call, answer);
     }
 }
 

@@ -1,0 +1,4 @@
+pub mod Words
+pub mod Reading
+pub mod Exact
+pub mod Cases

@@ -1,0 +1,5 @@
+pub mod Words
+pub mod Table
+pub mod Written
+pub mod Read
+pub mod Cases

@@ -1,0 +1,33 @@
+use Rattle.grimholdi_block.proofs.Ways.{put-is}
+use borrow.Author.Needs.{needs}
+use Rattle.grimholdi_block.proofs.put.Statement.{statement}
+use Rattle.grimholdi_block.proofs.put.Tie as tie
+
+add-end : tie.Need-add-end
+add-end c = search needs
+
+sub-copy : tie.Need-sub-copy
+sub-copy c = search needs
+
+part-copy-start : tie.Need-part-copy-start
+part-copy-start c = search needs
+
+part-copy-end : tie.Need-part-copy-end
+part-copy-end c = search needs
+
+copy-requires : tie.Need-copy-requires
+copy-requires c κs = search needs
+
+same-length : tie.Need-same-length
+same-length c = search needs
+
+returns : tie.Need-returns
+returns c =
+    let at-copy = c .before .before in
+    let start = at-copy .before .before .before .before in
+    put-is _ (start .args .part .now) (start .args .block .now) _ (start .pre) (at-copy .copy .ensures .1)
+
+pub put-spec : {M : Type 1} → statement M
+put-spec =
+    tie.close
+    (tie.spec add-end sub-copy part-copy-start part-copy-end copy-requires same-length returns)

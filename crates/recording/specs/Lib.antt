@@ -1,0 +1,5 @@
+pub mod Calls
+pub mod Block
+pub mod Written
+pub mod Refusals
+pub mod Cases

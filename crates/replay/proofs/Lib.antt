@@ -1,0 +1,7 @@
+pub mod Tallying
+pub mod Ways
+pub mod Turning
+pub mod Going
+pub mod Blocks
+pub mod Replays
+pub mod ReplayRefuted
