@@ -3,7 +3,8 @@
 #   make test-c      C and C++ tests, under valgrind
 #   make test-why    the tool why; each run under WHY_UNDER, if that is given
 #   make test-replay the tool replay, beside the model; under REPLAY_UNDER
-#   make test-model  the model: self-check, then 2,000,000 calls compared
+#   make test-model  the model: self-check, then 2,000,000 calls compared, and
+#                    recordings written, damaged and replayed
 #   make soak        the model over SOAK_CALLS calls, with a new seed
 #   make demo        the example firmware
 #   make why         the tool why, on the example's own NAK
