@@ -1,6 +1,6 @@
 # The front door. `make test` is the gate; `make check` is the quick loop, which proves what changed and runs the programs; `make lib` proves
-# the library and writes it. The targets of tests/tests.mk (test-c, test-model, test-why, test-replay, soak, demo, why, replay, speed) link
-# against it.
+# the library and writes it. The targets of tests/tests.mk (test-c, test-isolation, test-model, test-why, test-replay, soak, demo, why,
+# replay, speed) link against it.
 PREFIX ?= /usr/local
 LIBRARY ?= target/libgrimholdi.a
 

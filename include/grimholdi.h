@@ -35,6 +35,16 @@
  *   status and the bitmap, and its SetConfiguration, which acts on both.  It
  *   never sees a payload byte of the other.
  *
+ * The ports
+ *
+ *   One port cannot disturb another.  Line events at a port and the requests
+ *   that name it (GetPortStatus, ClearPortFeature, SetPortFeature) change no
+ *   byte of the area but that port's four.  If the other calls are the same,
+ *   every other port, the translator and the answers to those calls are as if
+ *   the port had never been named.  Only a poll may differ: in that port's
+ *   bit, and where no other bit is set it is GRIMHOLDI_DATA in place of
+ *   GRIMHOLDI_NAK, or the other way round.
+ *
  * The order of checks
  *
  *   Where several answers apply, the first of this list is given:

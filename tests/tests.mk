@@ -1,15 +1,18 @@
 # Tests, example and measurements around the static library.
 #
-#   make test-c      C and C++ tests, under valgrind
-#   make test-why    the tool why; each run under WHY_UNDER, if that is given
-#   make test-replay the tool replay, beside the model; under REPLAY_UNDER
-#   make test-model  the model: self-check, then 2,000,000 calls compared, and
-#                    recordings written, damaged and replayed
-#   make soak        the model over SOAK_CALLS calls, with a new seed
-#   make demo        the example firmware
-#   make why         the tool why, on the example's own NAK
-#   make replay      the tool replay, on the example's own recording
-#   make speed       instructions per call, against inplace.c
+#   make test-c          C and C++ tests, under valgrind
+#   make test-isolation  one port cannot disturb another: ISOLATION_CALLS calls
+#                        compared in two histories, without valgrind
+#   make test-why        the tool why; each run under WHY_UNDER, if that is
+#                        given
+#   make test-replay     the tool replay, beside the model; under REPLAY_UNDER
+#   make test-model      the model: self-check, then 2,000,000 calls compared,
+#                        and recordings written, damaged and replayed
+#   make soak            the model over SOAK_CALLS calls, with a new seed
+#   make demo            the example firmware
+#   make why             the tool why, on the example's own NAK
+#   make replay          the tool replay, on the example's own recording
+#   make speed           instructions per call, against inplace.c
 #
 # LIBRARY names the static library; LDLIBS what else it needs.  For a trial
 # without it:  make lib-stand-in && make test-c LIBRARY=$(STAND_IN)
@@ -21,6 +24,8 @@ VALGRIND ?= valgrind -q --error-exitcode=1 --leak-check=full
 TARGET ?= target
 LIBRARY ?= $(TARGET)/libgrimholdi.a
 STAND_IN := $(TARGET)/stand-in/libgrimholdi.a
+ISOLATION_CALLS ?= 1000000
+ISOLATION_SEED ?= 1
 MODEL_CALLS ?= 2000000
 MODEL_SEED ?= 1
 SOAK_CALLS ?= 100000000
@@ -53,8 +58,8 @@ MODEL_PROGRAM := $(TARGET)/model/release/model
 # Rewritten when LIBRARY names another file, so that programs are linked anew.
 LINKED := $(TARGET)/linked-library
 
-.PHONY: always lib-stand-in test-c test-model test-why test-replay soak demo \
-	why replay speed
+.PHONY: always lib-stand-in test-c test-isolation test-model test-why \
+	test-replay soak demo why replay speed
 
 $(LINKED): always
 	mkdir -p $(@D)
@@ -83,12 +88,18 @@ AREA_VIEW := $(patsubst %,tools/%.c,why/area_view why/area_fault \
 $(TARGET)/c/test_area_view: TESTED_SOURCES := $(AREA_VIEW)
 $(TARGET)/c/test_area_view: $(AREA_VIEW) $(WHY_HEADERS)
 
+# Drawn calls name the bytes of an area as the tool does.
+$(TARGET)/c/test_isolation: $(WHY_HEADERS)
+
 $(CXX_TESTS): $(TARGET)/c/%: tests/c/%.cpp $(C_HEADERS) $(LIBRARY) $(LINKED)
 	mkdir -p $(@D)
 	$(CXX) $(TEST_CXXFLAGS) $< $(LIBRARY) $(LDLIBS) -o $@
 
 test-c: $(C_TESTS) $(CXX_TESTS)
 	set -e; for test in $^; do $(VALGRIND) $$test; done
+
+test-isolation: $(TARGET)/c/test_isolation
+	$< $(ISOLATION_CALLS) $(ISOLATION_SEED)
 
 test-model: $(LIBRARY)
 	$(MODEL) --self-check

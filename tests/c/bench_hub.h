@@ -150,17 +150,22 @@ static inline uint8_t clear_feature(uint16_t feature, uint16_t port)
     return clear_feature_from(0, feature, port);
 }
 
+/* wValue of ClearTTBuffer, with type control. */
+static inline uint16_t tt_value(uint32_t address, uint32_t endpoint,
+                                uint32_t direction)
+{
+    return (uint16_t)(endpoint << GRIMHOLDI_TT_ENDPOINT_SHIFT
+                      | address << GRIMHOLDI_TT_ADDRESS_SHIFT
+                      | direction << GRIMHOLDI_TT_DIRECTION_SHIFT);
+}
+
 static inline uint8_t clear_tt_buffer_from(uint32_t lane, uint16_t address,
                                            uint16_t endpoint,
                                            uint16_t direction)
 {
-    uint16_t value = (uint16_t)(endpoint << GRIMHOLDI_TT_ENDPOINT_SHIFT
-                                | address << GRIMHOLDI_TT_ADDRESS_SHIFT
-                                | direction << GRIMHOLDI_TT_DIRECTION_SHIFT);
-
     return request_from(lane, GRIMHOLDI_TYPE_SET_PORT,
-                        GRIMHOLDI_REQUEST_CLEAR_TT_BUFFER, value, 1,
-                        0).number;
+                        GRIMHOLDI_REQUEST_CLEAR_TT_BUFFER,
+                        tt_value(address, endpoint, direction), 1, 0).number;
 }
 
 static inline uint8_t clear_tt_buffer(uint16_t address, uint16_t endpoint,
@@ -328,9 +333,14 @@ static inline uint16_t port_changes(uint16_t port)
 
 /* The area's own bytes, docs/AREA.md. */
 
+static inline size_t port_place(uint32_t port)
+{
+    return 8 + 4 * (size_t)(port - 1);
+}
+
 static inline uint8_t *port_bytes(uint32_t port)
 {
-    return area + 8 + 4 * (port - 1);
+    return area + port_place(port);
 }
 
 static inline uint8_t *buffer_bytes(uint32_t number)

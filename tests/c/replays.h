@@ -79,7 +79,7 @@ static inline void add_clear_tt(uint32_t lane, uint16_t address)
 {
     add_request(lane, GRIMHOLDI_TYPE_SET_PORT,
                 GRIMHOLDI_REQUEST_CLEAR_TT_BUFFER,
-                (uint16_t)(0x8001 | address << 4), 1);
+                tt_value(address, 1, GRIMHOLDI_DIRECTION_IN), 1);
 }
 
 /* Replays. */

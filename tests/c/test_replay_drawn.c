@@ -3,19 +3,10 @@
  * changed.
  */
 
+#include "draw.h"
 #include "replays.h"
 
 /* Sessions drawn at random. */
-
-static uint32_t drawn = 1;
-
-static uint32_t draw(uint32_t below)
-{
-    drawn ^= drawn << 13;
-    drawn ^= drawn >> 17;
-    drawn ^= drawn << 5;
-    return drawn % below;
-}
 
 /* Mostly small numbers that the hub takes; now and then others. */
 static uint32_t draw_number(uint32_t below)
@@ -207,6 +198,7 @@ int main(void)
 {
     lend_memory();
     changed_bytes();
+    drawn = 1;
     drawn_sessions(4, 3, 120);
     drawn_sessions(1, 2, 120);
     drawn_sessions(7, 4, 120);

@@ -38,7 +38,7 @@ use Rattle.area.specs.declared.Read.{Read}
 use Rattle.area.specs.Read.{readOf}
 use Rattle.area.proofs.Exact.{area-exact}
 use Rattle.grimholdi.specs.Entry.{Gave, gaveBy}
-use Rattle.grimholdi.specs.Runs.{Asked, control, poll, startSplit, completeSplit, launch, deliver, lineEvent, tick, busReset, callOf, replyOf, gives, seen, NewArea, filled, entries, AreaFollows, EntryRefusals, EntryClaims}
+use Rattle.grimholdi.specs.Runs.{Asked, control, poll, startSplit, completeSplit, launch, deliver, lineEvent, tick, busReset, callOf, replyOf, gives, seen, NewArea, filled, entries, AreaFollows, EntryRefusals}
 use Rattle.grimholdi.proofs.Taken.{none-written}
 use Rattle.grimholdi.proofs.Ways.{taken-hub, entry-taken, entry-refused, new-made}
 
@@ -137,10 +137,10 @@ module _ (m : NewArea) where
       let n = m .numbers in
       ap (λ (g : Gave). g .area) (new-made (m .memory) (n .ports) (n .buffers) (n .powergood) (n .current) (n .removable) (n .fit) (m .long))
 
-demand-2 : Demand2 entries
+pub demand-2 : Demand2 entries
 demand-2 m xs = ap (λ (a : List ℕ). runFrom entries a xs) (filled-is m) ∙ follows xs (newHubOf (m .numbers)) (new-hub m)
 
-area-follows : AreaFollows
+pub area-follows : AreaFollows
 area-follows m xs = ap (λ (a : List ℕ). afterFrom entries a xs) (filled-is m) ∙ leaves xs (newHubOf (m .numbers)) (new-hub m)
 
 -- a machine that keeps demand 2 keeps what the rules' runs keep
@@ -156,7 +156,7 @@ module _ (w : Machine) (d : Demand2 w) where
       (subst (λ (y : List Event). SameCalls k [] (ruled-run n cs) y) (d n ds)
       (subst (λ (x : List Event). SameCalls k [] x (run w n ds)) (d n cs) s))))
 
-  carried-3 : Demand3 w
+  pub carried-3 : Demand3 w
   carried-3 =
       record {
         set-hidden = hidden;
@@ -165,13 +165,13 @@ module _ (w : Machine) (d : Demand2 w) where
         data-explained = λ n cs. subst (AllExplained []) (sym (d n cs)) (demand-3 .data-explained (w .numbers n) (map (w .call) cs));
       }
 
-  carried-order : LaunchOrder w
+  pub carried-order : LaunchOrder w
   carried-order n cs = subst (AllOrdered []) (sym (d n cs)) (launch-order (w .numbers n) (map (w .call) cs))
 
-  carried-reports : ErrorReports w
+  pub carried-reports : ErrorReports w
   carried-reports n cs = subst (AllShow []) (sym (d n cs)) (error-reports (w .numbers n) (map (w .call) cs))
 
-  carried-share : LaneShare w
+  pub carried-share : LaneShare w
   carried-share =
       record {
         few = λ z n cs. subst (λ (es : List Event). holding z (past [] es) < w .numbers n .buffers) (sym (d n cs)) (lane-share .few z (w .numbers n) (map (w .call) cs));
@@ -179,12 +179,12 @@ module _ (w : Machine) (d : Demand2 w) where
       }
 
 -- the hub that is read from the area is the one that the rules leave
-read-reached : (m : NewArea) (xs : List Asked) → readOf (afterFrom entries (filled m) xs) .hub ≡ afterFrom rules (newHubOf (m .numbers)) (map callOf xs)
+pub read-reached : (m : NewArea) (xs : List Asked) → readOf (afterFrom entries (filled m) xs) .hub ≡ afterFrom rules (newHubOf (m .numbers)) (map callOf xs)
 read-reached m xs =
     ap (λ (a : List ℕ). readOf a .hub) (area-follows m xs)
     ∙ ap (λ (r : Read). r .hub) (area-exact .again (afterFrom rules (newHubOf (m .numbers)) (map callOf xs)) (reached (m .numbers) (map callOf xs)))
 
-carried-tally : TallyHolds entries (λ a. activeBuffers (readOf a .hub))
+pub carried-tally : TallyHolds entries (λ a. activeBuffers (readOf a .hub))
 carried-tally m xs =
     subst (λ (h : Hub). tallyOf (past [] (run entries m xs)) .stored ≡ tallyOf (past [] (run entries m xs)) .answered + tallyOf (past [] (run entries m xs)) .emptied + activeBuffers h)
     (sym (read-reached m xs))
@@ -224,7 +224,7 @@ module _ (a : List ℕ) (x : Asked) where
           (behind-is (step h (callOf x) .answer .bytes) (replyOf x) (fits-reply h (t .0) x))
       go false p = subst Behind (sym (entry-refused a (readOf a) refl p (callOf x) (replyOf x))) refl
 
-entry-refusals : EntryRefusals
+pub entry-refusals : EntryRefusals
 entry-refusals =
     record {
       bad-area = λ a x n. entry-refused a (readOf a) refl (area-exact .refused a .1 n) (callOf x) (replyOf x);
@@ -234,17 +234,4 @@ entry-refusals =
           (λ e. due .0 (sym q ∙ e), λ e. q ∙ due .1 e);
       unchanged = λ r a x e. as-it-was a x r e;
       behind = behind;
-    }
-
-pub entry-claims : EntryClaims
-entry-claims =
-    record {
-      refusals = entry-refusals;
-      demand-2 = demand-2;
-      area-follows = area-follows;
-      demand-3 = carried-3 entries demand-2;
-      launch-order = carried-order entries demand-2;
-      error-reports = carried-reports entries demand-2;
-      lane-share = carried-share entries demand-2;
-      tally-holds = carried-tally;
     }

@@ -5,3 +5,5 @@ pub mod Delivering
 pub mod Completing
 pub mod Starting
 pub mod Carried
+pub mod Isolating
+pub mod Claimed

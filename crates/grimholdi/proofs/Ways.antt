@@ -4,21 +4,19 @@ use mathlib.Core.Path.{_≡_, refl, sym, _∙_, ap, ap₂}
 use native.Mathlib.Omega.{arith}
 use mathlib.Core.Bool.{Bool, true, false, cond}
 use mathlib.Core.List.{List, [], _∷_}
-use lib.Dec.{eqb}
 use lib.ListN.{length}
 use borrow.Author.Tests.{eq-eqb, ne-eqb}
 use Rattle.payload.specs.Payload as payload
-use Rattle.ports.specs.Bitmap.{bitmapOf}
 use Rattle.hub.specs.declared.Hub.{Hub}
 use Rattle.hub.specs.declared.Identity.{Identity}
 use Rattle.hub.specs.declared.Made.{Made}
 use Rattle.hub.specs.declared.Stepped.{Stepped}
 use Rattle.hub.specs.Hub.{newFits, hubOf, newHub}
-use Rattle.hub.specs.Call.{Call, Poll, Outcome, outcomeOf, refuse, gives}
-use Rattle.hub.specs.Rules.{polled}
+use Rattle.hub.specs.Call.{Call, Poll, Outcome, outcomeOf, gives}
 use Rattle.hub.specs.Step.{served, step}
 use Rattle.hub.specs.Valid.{ValidHub}
 use Rattle.hub.proofs.Order.{by-step}
+use Rattle.hub.proofs.Ways.{polled-stays}
 use Rattle.hub.proofs.Claimed.{hub-claims}
 use Rattle.area.specs.declared.Read.{Read}
 use Rattle.area.specs.Written.{written, areaLength, writtenOver}
@@ -76,12 +74,8 @@ module _ (a : List ℕ) (q : Read) (e : q ≡ readOf a) (ok : q .ok ≡ true) wh
         (answers x (p .0), (kept, replies t (p .1)))
 
 pub poll-stays : (h : Hub) (z room : ℕ) → step h (Poll z room) .next ≡ h
-unfolding served polled
-poll-stays h z room = by-step h (Poll z room) (λ (o : Outcome). o .next ≡ h) (λ n. refl) (λ w f. go (eqb (bitmapOf (h .identity .ports) (h .ports)) 0))
-  where
-    go : (b : Bool) → cond {A = Outcome} b (refuse 3 h) (gives h (bitmapOf (h .identity .ports) (h .ports) ∷ [])) .next ≡ h
-    go true = refl
-    go false = refl
+unfolding served
+poll-stays h z room = by-step h (Poll z room) (λ (o : Outcome). o .next ≡ h) (λ n. refl) (λ w f. polled-stays h)
 
 -- ---- an area that is refused
 

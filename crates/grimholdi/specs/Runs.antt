@@ -1,11 +1,12 @@
 -- Runs of C entries, and what is shown of them. A reader must believe: an area is memory of the right length that grimholdi_new filled; each
 -- entry gets the area as the last one left it, any numbers, any lent bytes and any reply space; what the caller sees is the answer struct
 -- and as many bytes of the reply space as it says.
-use Prim.Native.Nat.{ℕ}
+use Prim.Native.Nat.{ℕ, _+_, _*_, _-_}
 use mathlib.Core.Path.{_≡_}
 use mathlib.Core.List.{List, [], map}
 use mathlib.Core.Logic.{_↔_}
 use lib.ListN.{length, take, drop}
+use Rattle.port.specs.declared.PortNumber.{PortNumber}
 use Rattle.hub.specs.declared.Hub.{Hub}
 use Rattle.hub.specs.Call as hub
 use Rattle.hub.specs.Call.{Call, Control, Poll, Start, Complete, Launch, Deliver, Event, Tick, BusReset}
@@ -18,6 +19,7 @@ use Rattle.runs.specs.ErrorReports.{ErrorReports}
 use Rattle.runs.specs.Tally.{activeBuffers, TallyHolds}
 use Rattle.runs.specs.Share.{LaneShare}
 use Rattle.runs.specs.Refusals.{Refusal, numberOf, Due}
+use Rattle.isolation.specs.Isolation.{AtMatchingPoints, PortIsolation}
 use Rattle.area.specs.Written.{written, areaLength}
 use Rattle.area.specs.Read.{readOf}
 use Rattle.grimholdi.specs.Entry.{Gave, refused, entry, newEntry}
@@ -116,6 +118,21 @@ pub record EntryRefusals : Type 0 where
   -- no byte past the first n of the reply space is written
   pub behind : (a : List ℕ) (x : Asked) → drop (gives a x .answer .length) (gives a x .reply) ≡ drop (gives a x .answer .length) (replyOf x)
 
+-- where port p's four bytes begin: behind the head's eight and those of the ports before it
+abbrev pub portPlace : PortNumber → ℕ
+portPlace p = 8 + (p .0 - 1) * 4
+
+-- the areas differ in port p's bytes alone
+pub record SameAreaBut (p : PortNumber) (a b : List ℕ) : Type 0 where
+  pub long : length a ≡ length b
+  pub before : take (portPlace p) a ≡ take (portPlace p) b
+  pub behind : drop (portPlace p + 4) a ≡ drop (portPlace p + 4) b
+
+-- C-21: one port cannot disturb another
+pub record EntryIsolation : Type 0 where
+  pub ports : PortIsolation entries (λ a. readOf a .hub)
+  pub areas : AtMatchingPoints entries SameAreaBut
+
 pub record EntryClaims : Type 0 where
   pub refusals : EntryRefusals
   pub demand-2 : Demand2 entries
@@ -126,3 +143,4 @@ pub record EntryClaims : Type 0 where
   pub lane-share : LaneShare entries
   -- pending or ready now: of the hub that is read from the area
   pub tally-holds : TallyHolds entries (λ a. activeBuffers (readOf a .hub))
+  pub isolation : EntryIsolation

@@ -29,7 +29,8 @@ use Rattle.replay.specs.Replay.{Recording, Stop, Replayed, Played, andThen, rep
 use Rattle.replay.specs.Replay.{blocksOf, AllWritable, joined}
 use Rattle.replay.proofs.Replays.{sums, replay-claims}
 use Rattle.grimholdi.specs.Runs.{Asked, callOf, NewArea}
-use Rattle.grimholdi.proofs.Carried.{new-hub, filled-is, entry-claims}
+use Rattle.grimholdi.proofs.Carried.{new-hub, filled-is}
+use Rattle.grimholdi.proofs.Claimed.{entry-claims}
 use Rattle.grimholdi_replay.specs.Entry.{refusalNumber, Gave, refused, gaveBy, blockEntry}
 use Rattle.grimholdi_replay.specs.Replays.{verdictNumbered, throughEntry, Large, SessionReplays, EntryReplays}
 use Rattle.grimholdi_replay.proofs.Kept.{played-kept}

@@ -29,7 +29,8 @@ use Rattle.area.proofs.Exact.{area-exact}
 use Rattle.grimholdi.specs.Entry.{Gave}
 use Rattle.grimholdi.specs.Runs.{Asked, callOf, gives, seen}
 use Rattle.grimholdi_why.specs.Explained.{entryReason, explains, explainedEntries, EntryReasons}
-use Rattle.grimholdi.proofs.Carried.{gives-taken, answer-same, next-same, new-hub, filled-is, entry-claims}
+use Rattle.grimholdi.proofs.Carried.{gives-taken, answer-same, next-same, new-hub, filled-is}
+use Rattle.grimholdi.proofs.Claimed.{entry-claims}
 
 -- ---- one explaining entry
 

@@ -1,8 +1,8 @@
 -- How the code of the calls and requests is put together: what the functions that it calls gave makes what the rule says.
 -- Assumes nothing.
 use Prim.Native.Nat.{ℕ, _≤_, min}
-use mathlib.Core.Path.{_≡_, ap, ap₂, _∙_}
-use mathlib.Core.Bool.{Bool, true, false, not, _&&_, _||_}
+use mathlib.Core.Path.{_≡_, refl, ap, ap₂, _∙_}
+use mathlib.Core.Bool.{Bool, true, false, cond, not, _&&_, _||_}
 use mathlib.Core.List.{List, [], _∷_}
 use native.Mathlib.Omega.{arith}
 use borrow.Author.Tests.{ne-eqb}
@@ -34,6 +34,15 @@ use Rattle.hub.specs.Hub.{withPortAt}
 use Rattle.hub.specs.Call.{Outcome, plain, refuse, gives}
 use Rattle.hub.specs.Requests.{descriptor, byRequest, servedAlways, requested}
 use Rattle.hub.specs.Rules.{polled, eventAt}
+
+-- a poll leaves the hub as it was
+pub polled-stays : (h : Hub) → polled h .next ≡ h
+unfolding polled
+polled-stays h = go (eqb (bitmapOf (h .identity .ports) (h .ports)) 0)
+  where
+    go : (b : Bool) → cond {A = Outcome} b (refuse 3 h) (gives h (bitmapOf (h .identity .ports) (h .ports) ∷ [])) .next ≡ h
+    go true = refl
+    go false = refl
 
 module _ (h : Hub) {o : Outcome} where
   pub poll-nothing : {m : ℕ} → o ≡ plain h 3 → m ≡ bitmapOf (h .identity .ports) (h .ports) → m ≡ 0 → o ≡ polled h

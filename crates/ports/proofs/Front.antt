@@ -5,6 +5,7 @@ use mathlib.Core.List.{List, [], _∷_}
 use native.Mathlib.Numerals.{add-one}
 use native.Mathlib.Omega.{arith}
 use lib.ListN.{length, getD, set, drop}
+use lib.Seq.{set-set}
 use Rattle.ports.specs.Sweep.{front}
 
 module _ {A : Type 0} (f : A → A) where
@@ -48,3 +49,11 @@ module _ {A : Type 0} (f : A → A) where
   getD-front (suc n) i [] d h g = absurd (omega arith)
   getD-front (suc n) zero (x ∷ xs) d h g = refl
   getD-front (suc n) (suc i) (x ∷ xs) d h g = getD-front n i xs d (omega arith) (omega arith)
+
+  -- what f does to the others doesn't depend on element i
+  pub front-set : (n i : ℕ) (l : List A) (x y : A) → set (front f n (set l i x)) i y ≡ set (front f n l) i y
+  unfolding front
+  front-set zero i l x y = set-set l i x y
+  front-set (suc n) i [] x y = refl
+  front-set (suc n) zero (z ∷ l) x y = refl
+  front-set (suc n) (suc i) (z ∷ l) x y = ap (λ (r : List A). f z ∷ r) (front-set n i l x y)

@@ -22,7 +22,7 @@ use Rattle.ports.specs.Claims.{PortsClaims, Among}
 use Rattle.ports.proofs.Front.{drop-front, length-front, getD-front}
 
 -- a number is from 1 to 7, or outside
-by-range : (P : Bool → Type 0) (n : ℕ) → (1 ≤ n → n ≤ 7 → P true) → P false → P (oneToSeven n)
+pub by-range : (P : Bool → Type 0) (n : ℕ) → (1 ≤ n → n ≤ 7 → P true) → P false → P (oneToSeven n)
 by-range P n i o = go (leb 1 n) (leb n 7) refl refl
   where
     go : (a b : Bool) → leb 1 n ≡ a → leb n 7 ≡ b → P (a && b)
@@ -103,12 +103,12 @@ bitmap-byte : (n : ℕ) (ps : List Port) → bitmapOf n ps < 256
 unfolding bitmapOf
 bitmap-byte n ps = byte-of-8 false (portBit n ps 1) (portBit n ps 2) (portBit n ps 3) (portBit n ps 4) (portBit n ps 5) (portBit n ps 6) (portBit n ps 7)
 
-bitmap-bits : (n : ℕ) (ps : List Port) → bitsOf 8 (bitmapOf n ps) ≡ bitmapBits n ps
+pub bitmap-bits : (n : ℕ) (ps : List Port) → bitsOf 8 (bitmapOf n ps) ≡ bitmapBits n ps
 unfolding bitmapOf
 bitmap-bits n ps = bits-back (bitmapBits n ps)
 
 -- by the number of a bit, 0 to 7, or past them
-by-bit : (P : ℕ → Type 0) → P 0 → P 1 → P 2 → P 3 → P 4 → P 5 → P 6 → P 7 → ((i : ℕ) → P (suc (suc (suc (suc (suc (suc (suc (suc i))))))))) → (n : ℕ) → P n
+pub by-bit : (P : ℕ → Type 0) → P 0 → P 1 → P 2 → P 3 → P 4 → P 5 → P 6 → P 7 → ((i : ℕ) → P (suc (suc (suc (suc (suc (suc (suc (suc i))))))))) → (n : ℕ) → P n
 by-bit P p0 p1 p2 p3 p4 p5 p6 p7 past zero = p0
 by-bit P p0 p1 p2 p3 p4 p5 p6 p7 past (suc zero) = p1
 by-bit P p0 p1 p2 p3 p4 p5 p6 p7 past (suc (suc zero)) = p2
@@ -127,13 +127,13 @@ bits-at n ps =
 bitmap-bit : (n : ℕ) (ps : List Port) (m : PortNumber) → Among 7 m → getD (bitsOf 8 (bitmapOf n ps)) (m .0) false ≡ portBit n ps (m .0)
 bitmap-bit n ps m h = ap (λ (bs : List Bool). getD bs (m .0) false) (bitmap-bits n ps) ∙ bits-at n ps (m .0) (h .0) (h .1)
 
-all-zero : (bs : List Bool) → ((i : ℕ) → getD bs i false ≡ false) → byteOf bs ≡ 0
+pub all-zero : (bs : List Bool) → ((i : ℕ) → getD bs i false ≡ false) → byteOf bs ≡ 0
 all-zero [] h = refl
 all-zero (true ∷ bs) h = absurd (true≢false (h 0))
 all-zero (false ∷ bs) h = rw (all-zero bs (λ i. h (suc i)))
 
 -- the bits of 0 are zero
-none-of-0 : (i : ℕ) → getD (bitsOf 8 0) i false ≡ false
+pub none-of-0 : (i : ℕ) → getD (bitsOf 8 0) i false ≡ false
 none-of-0 = by-bit (λ i. getD (bitsOf 8 0) i false ≡ false) refl refl refl refl refl refl refl refl (λ i. refl)
 
 module _ (n : ℕ) (ps : List Port) where

@@ -37,7 +37,7 @@ use Rattle.runs.specs.History.{History, Delivered, keyOf, asks, openAfte
 use Rattle.runs.specs.Order.{pendingAfter, isPendingAt, callAt, Earliest, AllOrdered, LaunchOrder}
 use Rattle.runs.specs.Machine.{Numbers, runFrom}
 use Rattle.runs.specs.Demand3.{onlyKey, same, deliver, SameCalls, SameAnswers, MarkHidden, AllExplained, DataExplained}
-use Rattle.runs.specs.Altered.{own, requestBy, OwnServed, altered}
+use Rattle.runs.specs.Altered.{own, ownPorts, requestBy, OwnServed, altered}
 use Rattle.runs.specs.Mistakes.{lateResult, withoutDirection, longerTail, placesTwice, latestFirst, MistakesShutOut}
 
 -- four ports, three buffers
@@ -140,7 +140,7 @@ latest-launched claim =
     let f = early e (omega (arith, e .earliest 1 refl)) in
     ⊎-elim (λ z. omega (arith, z)) (⊎-elim (λ z. omega (arith, z)) (λ z. omega (arith, z))) f
 
-own-request : (h : Hub) (y : Lane) (r : Request) → requestBy own h y r ≡ byRequest h y r
+own-request : (h : Hub) (y : Lane) (r : Request) → requestBy own ownPorts h y r ≡ byRequest h y r
 own-request h y (Wrong f) = refl
 own-request h y (SetConfiguration on) = refl
 own-request h y GetConfiguration = refl

@@ -1,4 +1,4 @@
-use Rattle.grimholdi.proofs.Carried as proved
+use Rattle.grimholdi.proofs.Claimed as proved
 use Rattle.grimholdi.proofs.entry_claims.Statement.{statement}
 use Rattle.grimholdi.proofs.entry_claims.Tie as tie
 

@@ -1,0 +1,4 @@
+pub mod Naming
+pub mod Isolation
+pub mod Disturbances
+pub mod Cases
