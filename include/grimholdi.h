@@ -43,7 +43,8 @@
  *   every other port, the translator and the answers to those calls are as if
  *   the port had never been named.  Only a poll may differ: in that port's
  *   bit, and where no other bit is set it is GRIMHOLDI_DATA in place of
- *   GRIMHOLDI_NAK, or the other way round.
+ *   GRIMHOLDI_NAK, or the other way round.  (Its reason, below, tells the
+ *   change bits of every port.)
  *
  * The order of checks
  *
