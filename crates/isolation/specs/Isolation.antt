@@ -1,5 +1,6 @@
--- C-21: one port cannot disturb another. A reader must believe: which calls name a port (Naming.antt), and that what is compared here is
--- what the request lists. `hub` gives the hub that a state of the machine holds.
+-- C-21: one port cannot disturb another. In the standard words: noninterference of a port with all else, `struck` being the purge.
+-- A reader must believe: which calls name a port (Naming.antt), and that what is compared here is what the request lists. `hub` gives the
+-- hub that a state of the machine holds.
 use Prim.Native.Nat.{ℕ, _^_, _<_}
 use mathlib.Core.Path.{_≡_}
 use mathlib.Core.Bool.{Bool, true, false}
