@@ -70,14 +70,9 @@ static inline int same_fields(const grimholdi_answer *answer,
     return memcmp(answer, other, sizeof *answer) == 0;
 }
 
-static inline int fields_agree(void)
-{
-    return same_fields(&histories[LEFT].answer, &histories[RIGHT].answer);
-}
-
 static inline int answers_agree(void)
 {
-    return fields_agree()
+    return same_fields(&histories[LEFT].answer, &histories[RIGHT].answer)
            && memcmp(reply_of(LEFT), reply_of(RIGHT), given_by(LEFT)) == 0;
 }
 
@@ -94,41 +89,44 @@ static inline int space_is_kept(int side)
 
 /* Polls. */
 
-static inline int is_byte(int side)
+/* A poll answers one byte, or a number alone. */
+static inline int is_poll_answer(int side)
 {
-    static const grimholdi_answer byte = {.number = GRIMHOLDI_DATA,
-                                          .length = 1};
+    const grimholdi_answer *answer = &histories[side].answer;
+    grimholdi_answer due = {.number = answer->number};
 
-    return same_fields(&histories[side].answer, &byte);
-}
-
-static inline int is_nak(int side)
-{
-    static const grimholdi_answer nak = {.number = GRIMHOLDI_NAK};
-
-    return same_fields(&histories[side].answer, &nak);
+    due.length = answer->number == GRIMHOLDI_DATA;
+    return same_fields(answer, &due);
 }
 
 /* Where a poll is answered 3, each is: the picked port's bit alone, or 3. */
 static inline int suits_nak(int side)
 {
+    uint8_t number = histories[side].answer.number;
+
     if (!picked_has_change(side))
-        return is_nak(side);
-    return is_byte(side) && reply_of(side)[0] == 1u << picked;
+        return number == GRIMHOLDI_NAK;
+    return number == GRIMHOLDI_DATA && reply_of(side)[0] == 1u << picked;
+}
+
+/* The bytes differ in the picked port's bit alone, exactly if it does. */
+static inline int bits_agree(void)
+{
+    unsigned apart = picked_has_change(LEFT) != picked_has_change(RIGHT);
+
+    return (reply_of(LEFT)[0] ^ reply_of(RIGHT)[0]) == apart << picked;
 }
 
 static inline int polls_agree(void)
 {
     uint8_t left = histories[LEFT].answer.number;
     uint8_t right = histories[RIGHT].answer.number;
-    unsigned apart = picked_has_change(LEFT) != picked_has_change(RIGHT);
 
+    if (!is_poll_answer(LEFT) || !is_poll_answer(RIGHT))
+        return 0;
     if (left == GRIMHOLDI_NAK || right == GRIMHOLDI_NAK)
         return suits_nak(LEFT) && suits_nak(RIGHT);
-    if (left != GRIMHOLDI_DATA)
-        return fields_agree();
-    return is_byte(LEFT) && is_byte(RIGHT)
-           && (reply_of(LEFT)[0] ^ reply_of(RIGHT)[0]) == (apart << picked);
+    return left == right && (left != GRIMHOLDI_DATA || bits_agree());
 }
 
 /* Calls made and compared. */

@@ -59,11 +59,23 @@ static inline void hold_one_back(const call *c, grimholdi_answer *answer)
         hold_back(answer);
 }
 
-/* A poll of a hub with one port is 3. */
+/* A poll of a hub with one port writes the byte and is 3. */
 static inline void hold_only_back(const call *c, grimholdi_answer *answer)
 {
-    if (is_poll(c, answer, GRIMHOLDI_DATA) && area[HEAD_PORTS] == 1)
-        hold_back(answer);
+    if (!is_poll(c, answer, GRIMHOLDI_DATA) || area[HEAD_PORTS] != 1)
+        return;
+    answer->number = GRIMHOLDI_NAK;
+    answer->length = 0;
+}
+
+/* While port 1 is Disconnected, a poll gives a byte without bits for 3. */
+static inline void give_no_bit(const call *c, grimholdi_answer *answer)
+{
+    if (!is_poll(c, answer, GRIMHOLDI_NAK) || !port_1_is(STATE_DISCONNECTED))
+        return;
+    answer->number = GRIMHOLDI_DATA;
+    answer->length = 1;
+    reply[0] = 0;
 }
 
 /* While port 1 is Resuming, the byte of a poll comes with a PID. */

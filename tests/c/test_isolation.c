@@ -141,8 +141,9 @@ static const struct {
     {give_every_bit, POLL_ANSWERS},     {leave_out_port_1, POLL_ANSWERS},
     {bring_port_2, POLL_ANSWERS},       {give_bit_0, POLL_ANSWERS},
     {hold_one_back, POLL_ANSWERS},      {hold_only_back, POLL_ANSWERS},
-    {give_pid, POLL_ANSWERS},           {give_nak_pid, POLL_ANSWERS},
-    {refuse_as_silent, POLL_ANSWERS},   {write_behind, REPLY_SPACES},
+    {give_no_bit, POLL_ANSWERS},        {give_pid, POLL_ANSWERS},
+    {give_nak_pid, POLL_ANSWERS},       {refuse_as_silent, POLL_ANSWERS},
+    {write_behind, REPLY_SPACES},
     {forget_changes, MADE_AGAIN},       {launch_other_toggle, MADE_AGAIN},
     {set_old_toggles, MADE_AGAIN}
 };
