@@ -109,7 +109,7 @@ static inline int suits_nak(int side)
     return number == GRIMHOLDI_DATA && reply_of(side)[0] == 1u << picked;
 }
 
-/* The bytes differ in the picked port's bit alone, exactly if it does. */
+/* The picked port's bit differs if its having a change bit does; no other. */
 static inline int bits_agree(void)
 {
     unsigned apart = picked_has_change(LEFT) != picked_has_change(RIGHT);
