@@ -50,15 +50,12 @@ SESSION := $(TARGET)/session.rec
 SESSION_ANSWERS := $(TARGET)/session.answers
 # The five numbers of the example's hub.
 SESSION_HUB := 4 3 50 100 0
-MODEL_CARGO = GRIMHOLDI_LIBRARY=$(abspath $(LIBRARY)) $(CARGO) $(1) --release \
-	--quiet --manifest-path tests/model/Cargo.toml --target-dir $(TARGET)/model
-MODEL := $(call MODEL_CARGO,run) --
-MODEL_PROGRAM := $(TARGET)/model/release/model
+MODEL := $(TARGET)/model/release/model
 
 # Rewritten when LIBRARY names another file, so that programs are linked anew.
 LINKED := $(TARGET)/linked-library
 
-.PHONY: always lib-stand-in test-c test-isolation test-model test-why \
+.PHONY: always lib-stand-in model test-c test-isolation test-model test-why \
 	test-replay soak demo why replay speed
 
 $(LINKED): always
@@ -101,11 +98,17 @@ test-c: $(C_TESTS) $(CXX_TESTS)
 test-isolation: $(TARGET)/c/test_isolation
 	$< $(ISOLATION_CALLS) $(ISOLATION_SEED)
 
-test-model: $(LIBRARY)
+# The model's program; cargo knows whether it has to be built.
+model: $(LIBRARY)
+	GRIMHOLDI_LIBRARY=$(abspath $(LIBRARY)) $(CARGO) build --release --quiet \
+		--locked --manifest-path tests/model/Cargo.toml \
+		--target-dir $(TARGET)/model
+
+test-model: model
 	$(MODEL) --self-check
 	$(MODEL) --calls $(MODEL_CALLS) --seed $(MODEL_SEED)
 
-soak: $(LIBRARY)
+soak: model
 	$(MODEL) --calls $(SOAK_CALLS) --seed $(SOAK_SEED)
 
 $(TARGET)/firmware: examples/firmware.c $(INCLUDED) $(LIBRARY) $(LINKED)
@@ -141,11 +144,9 @@ test-why: $(TARGET)/why $(NAK_AREA)
 replay: $(TARGET)/replay $(SESSION)
 	$(TARGET)/replay $(SESSION) $(SESSION_HUB)
 
-# The model's program is built first: cargo knows whether it has to be.
-test-replay: $(TARGET)/replay $(SESSION) $(SESSION_ANSWERS)
-	$(call MODEL_CARGO,build)
+test-replay: $(TARGET)/replay $(SESSION) $(SESSION_ANSWERS) model
 	python3 -B tests/tools/test_replay.py $(SESSION) $(SESSION_ANSWERS) \
-		$(MODEL_PROGRAM) $(REPLAY_UNDER) $(TARGET)/replay
+		$(MODEL) $(REPLAY_UNDER) $(TARGET)/replay
 
 speed: $(LIBRARY)
 	CC="$(CC)" LDLIBS="$(LDLIBS)" tests/speed/speed.sh $(LIBRARY) $(TARGET)/speed

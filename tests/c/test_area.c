@@ -375,8 +375,11 @@ static void refused_buffers(void)
               ? taken_with(BUFFER_1, (uint8_t)value)
               : refused_with(BUFFER_1, (uint8_t)value));
 
-        /* "abc" suits OUT only. */
+        /* Pending with "abc" is OUT; a bulk result is not SETUP's. */
         CHECK(value == 1 || refused_with(BUFFER_0 + 1, (uint8_t)value));
+        CHECK(value == 1 || value == 9
+              ? taken_with(BUFFER_1 + 1, (uint8_t)value)
+              : refused_with(BUFFER_1 + 1, (uint8_t)value));
         CHECK(value == 0 || value == 2
               ? taken_with(BUFFER_0 + 2, (uint8_t)value)
               : refused_with(BUFFER_0 + 2, (uint8_t)value));
@@ -477,6 +480,111 @@ static void refused_setups(void)
     CHECK(refused_with(BUFFER_0 + 7, 9));
 }
 
+/* A hub whose buffer 0, control to (5, 1), has this result. */
+static void result_hub(uint8_t status, uint8_t pid, uint8_t result,
+                       const char *payload)
+{
+    configured_hub(2, 3);
+    area[BUFFER_0] = status;
+    area[BUFFER_0 + 1] = pid;
+    area[BUFFER_0 + 2] = GRIMHOLDI_TRANSFER_CONTROL;
+    area[BUFFER_0 + 4] = 5;
+    area[BUFFER_0 + 5] = 1;
+    area[BUFFER_0 + 6] = result;
+    area[BUFFER_0 + 7] = (uint8_t)strlen(payload);
+    memcpy(area + BUFFER_0 + 8, payload, strlen(payload));
+}
+
+/* The six results, data with 0 to 64 bytes, the others with none. */
+static int result_permits(int result, int length)
+{
+    switch (result) {
+    case GRIMHOLDI_RESULT_DATA0:
+    case GRIMHOLDI_RESULT_DATA1:
+        return length <= 64;
+    case GRIMHOLDI_RESULT_FAILURE:
+    case GRIMHOLDI_RESULT_ACK:
+    case GRIMHOLDI_RESULT_NAK:
+    case GRIMHOLDI_RESULT_STALL:
+        return length == 0;
+    default:
+        return 0;
+    }
+}
+
+/* Ready or old: each result with each length, whatever the PID. */
+static void results(uint8_t status, uint8_t pid)
+{
+    static const uint8_t lengths[] = {0, 1, 8, 64, 65, 255};
+    int result;
+    size_t i;
+
+    result_hub(status, pid, GRIMHOLDI_RESULT_NAK, "");
+    for (result = 0; result < 256; result++)
+        for (i = 0; i < sizeof lengths; i++) {
+            area[BUFFER_0 + 7] = lengths[i];
+            CHECK(result_permits(result, lengths[i])
+                  ? taken_with(BUFFER_0 + 6, (uint8_t)result)
+                  : refused_with(BUFFER_0 + 6, (uint8_t)result));
+        }
+}
+
+/* The buffer's handshake is given, and the buffer is old; no byte else. */
+static int gives_handshake(uint8_t pid, uint32_t direction)
+{
+    grimholdi_answer answer;
+
+    save();
+    answer = complete(5, 1, direction);
+    saved_area[BUFFER_0] = 3;
+    return answer.number == GRIMHOLDI_HANDSHAKE && answer.pid == pid
+           && answer.length == 0 && launches_nothing(answer)
+           && area_is_saved() && reply_is_saved();
+}
+
+/* No delivery leaves these results, which an area may hold. */
+static void unsuited_results(void)
+{
+    grimholdi_answer answer;
+
+    result_hub(2, GRIMHOLDI_PID_IN, GRIMHOLDI_RESULT_ACK, "");
+    CHECK(is_taken());
+    CHECK(gives_handshake(2, GRIMHOLDI_DIRECTION_IN));
+    CHECK(is_taken());
+
+    result_hub(3, GRIMHOLDI_PID_OUT, GRIMHOLDI_RESULT_DATA0, "abc");
+    CHECK(is_taken());
+    save();
+    answer = complete(5, 1, GRIMHOLDI_DIRECTION_OUT);
+    CHECK(gives(answer, "abc", 3) && answer.pid == 3
+          && launches_nothing(answer));
+    CHECK(area_is_saved());
+    CHECK(memcmp(reply + 3, saved_reply + 3, sizeof saved_reply - 3) == 0);
+
+    result_hub(2, GRIMHOLDI_PID_SETUP, GRIMHOLDI_RESULT_NAK, "");
+    CHECK(is_taken());
+    CHECK(refused_with(BUFFER_0 + 2, GRIMHOLDI_TRANSFER_BULK));
+    CHECK(gives_handshake(10, GRIMHOLDI_DIRECTION_OUT));
+
+    /* A payload on a result that isn't data is outside the rules. */
+    result_hub(2, GRIMHOLDI_PID_SETUP, GRIMHOLDI_RESULT_ACK, "a");
+    CHECK(all_refuse(area, area_len));
+    result_hub(2, GRIMHOLDI_PID_SETUP, GRIMHOLDI_RESULT_ACK, "12345678");
+    CHECK(all_refuse(area, area_len));
+}
+
+static void refused_results(void)
+{
+    static const uint8_t pids[] = {GRIMHOLDI_PID_OUT, GRIMHOLDI_PID_IN,
+                                   GRIMHOLDI_PID_SETUP};
+    size_t i;
+
+    for (i = 0; i < sizeof pids; i++) {
+        results(2, pids[i]);
+        results(3, pids[i]);
+    }
+}
+
 static void unconfigured_areas(void)
 {
     /* An unconfigured hub has every port Not Configured. */
@@ -525,6 +633,8 @@ int main(void)
     crowded_areas(3);
     crowded_areas(4);
     refused_setups();
+    refused_results();
+    unsuited_results();
     unconfigured_areas();
     unreached_areas();
     free_hub();

@@ -283,8 +283,7 @@ static int buffer_ok(const uint8_t *buffer)
         break;
     case READY:
     case OLD:
-        if (!result_ok(buffer[RESULT], length)
-            || !result_suits(buffer[PID], buffer[RESULT]))
+        if (!result_ok(buffer[RESULT], length))
             return 0;
         break;
     default:

@@ -164,6 +164,8 @@ def other_forms(runs):
     area, state = why_areas.BUSY, why_areas.BUSY_STATE
     raw = "8 1 8 0 0 0 0 0 0 0\n"
     runs.compare(["--state", "hub.area"], area, 0, state, "")
+    runs.compare(["--state", "hub.area"], why_areas.UNSUITED, 0,
+                 why_areas.UNSUITED_STATE, "")
     runs.compare(["--raw", "-", "launch"], b"", 0, raw, "", given=area)
     runs.compare(["--raw", "--room", "64", "hub.area", "launch"], area, 0,
                  raw, "")

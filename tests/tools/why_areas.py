@@ -94,6 +94,22 @@ buffer 1: old with DATA1, lane 1 (6,1 IN), IN bulk, full speed, toggle 0, \
 payload of 20 bytes
 """
 
+# Results that no delivery leaves, since they don't suit the PID.
+UNSUITED = area([port(1)], [
+    buffer(READY, IN, BULK, 5, 1, ACK),
+    buffer(OLD, OUT, BULK, 6, 1, DATA0, b"abc", lane=1),
+    buffer(READY, SETUP, CONTROL, 7, 0, NAK)])
+UNSUITED_STATE = """\
+hub: 1 port, 3 buffers, configured, the low side is free
+port 1: Powered-off
+buffer 0: ready with ACK, lane 0 (5,1 IN), IN bulk, full speed, toggle 0, \
+no payload
+buffer 1: old with DATA0, lane 1 (6,1 OUT), OUT bulk, full speed, toggle 0, \
+payload of 3 bytes
+buffer 2: ready with NAK, lane 0 (7,0 OUT), SETUP control, full speed, \
+toggle 0, no payload
+"""
+
 # A new hub.
 NEW = area([port(0)] * 2, [buffer()] * 2, configured=0)
 NEW_STATE = """\

@@ -2,7 +2,7 @@
 
 from why_areas import (BENCH, BENCH_STATE, BUSY, BUSY_STATE, NEW, NEW_STATE,
                        RUNS_IN, RUNS_IN_STATE, RUNS_SETUP, RUNS_SETUP_STATE,
-                       SMALL, SMALL_STATE, changed)
+                       SMALL, SMALL_STATE, UNSUITED, UNSUITED_STATE, changed)
 
 BENCHED = (BENCH, BENCH_STATE)
 BUSIED = (BUSY, BUSY_STATE)
@@ -10,6 +10,7 @@ SMALLER = (SMALL, SMALL_STATE)
 FRESH = (NEW, NEW_STATE)
 IN_RUN = (RUNS_IN, RUNS_IN_STATE)
 SETUP_RUN = (RUNS_SETUP, RUNS_SETUP_STATE)
+NOT_SUITED = (UNSUITED, UNSUITED_STATE)
 CHIRPED = (changed(SMALL, {8: 3}),
            SMALL_STATE.replace("Resetting, high speed, 0 ticks",
                                "Disabled, high speed"))

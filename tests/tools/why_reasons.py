@@ -5,8 +5,9 @@ Written from documents 01 and 02 and include/grimholdi.h.
 
 from why_areas import (BENCH, BENCH_STATE, BUSY, BUSY_STATE, NEW, NEW_STATE,
                        changed)
-from why_cases import (BENCHED, BUSIED, FRESH, NO_REASON, ROOM, SIXTEEN,
-                       SIXTY_FOUR, SMALLER, case, control, start_split)
+from why_cases import (BENCHED, BUSIED, FRESH, NO_REASON, NOT_SUITED, ROOM,
+                       SIXTEEN, SIXTY_FOUR, SMALLER, case, control,
+                       start_split)
 
 # Start-splits: each reason.
 
@@ -240,6 +241,15 @@ case(BUSIED, "complete-split 1 9 0 OUT",
      ["HANDSHAKE: the device's handshake is STALL; " + NO_REASON], "9 0 0")
 case(BUSIED, "complete-split 0 5 1 IN",
      "complete-split, lane 0, address 5, endpoint 1, direction IN, " + ROOM,
+     ["HANDSHAKE: the device's handshake is NAK; " + NO_REASON], "9 0 0")
+case(NOT_SUITED, "complete-split 0 5 1 IN",
+     "complete-split, lane 0, address 5, endpoint 1, direction IN, " + ROOM,
+     ["HANDSHAKE: the device's handshake is ACK; " + NO_REASON], "9 0 0")
+case(NOT_SUITED, "complete-split 1 6 1 OUT",
+     "complete-split, lane 1, address 6, endpoint 1, direction OUT, " + ROOM,
+     ["reply: 61 62 63", "DATA: DATA0, 3 bytes; " + NO_REASON], "1 0 0")
+case(NOT_SUITED, "complete-split 0 7 0 OUT",
+     "complete-split, lane 0, address 7, endpoint 0, direction OUT, " + ROOM,
      ["HANDSHAKE: the device's handshake is NAK; " + NO_REASON], "9 0 0")
 case(BENCHED, "launch", "launch, " + ROOM,
      ["DATA: lane 0 (6,1 IN), IN bulk, full speed, toggle 0, 0 bytes; "

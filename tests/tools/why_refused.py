@@ -166,14 +166,12 @@ BAD_AREAS = [
        "permitted"),
     at({30: 5}, "byte 30: buffer 0 has result 5; failure 0, ACK 2, DATA0 3, "
        "NAK 10, DATA1 11 and STALL 14 are permitted"),
-    at({30: 2}, "byte 30: buffer 0 has result ACK; IN has DATA0, DATA1, NAK, "
-       "STALL and failure"),
-    at({25: 1}, "byte 30: buffer 0 has result DATA0; OUT has ACK, NAK, STALL "
-       "and failure"),
-    at({25: 13, 26: 0, 30: 10}, "byte 30: buffer 0 has result NAK; SETUP has "
-       "ACK and failure"),
+    at({30: 2}, "byte 31: buffer 0 has a payload of 3 bytes; ACK has none"),
     at({24: 3, 30: 10},
        "byte 31: buffer 0 has a payload of 3 bytes; NAK has none"),
+    at({25: 13}, "byte 26: buffer 0 has type bulk; SETUP is control"),
+    at({25: 13, 26: 0, 30: 2, 31: 8},
+       "byte 31: buffer 0 has a payload of 8 bytes; ACK has none"),
     at({31: 65},
        "byte 31: buffer 0 has a payload of 65 bytes; DATA0 has 0 to 64"),
     at({103: 1}, "byte 103: buffer 1 has a payload of 1 byte; IN has none"),

@@ -177,11 +177,6 @@ static int result_fault(const uint8_t *buffer, unsigned number, unsigned at,
         return fault_says(fault, "byte %u: buffer %u has result %u; failure "
                           "0, ACK 2, DATA0 3, NAK 10, DATA1 11 and STALL 14 "
                           "are permitted", at + BUFFER_RESULT, number, result);
-    if (!is_pending && !result_suits(pid, result))
-        return fault_says(fault, "byte %u: buffer %u has result %s; %s has "
-                          "%s", at + BUFFER_RESULT, number,
-                          name_of(result_names, result),
-                          name_of(pid_names, pid), suiting_results(pid));
     if (length < lengths->least || length > lengths->most)
         return fault_says(fault, "byte %u: buffer %u has a payload of "
                           BYTE_COUNT "; %s has %s",

@@ -6,28 +6,19 @@
 
 #include "../words/names.h"
 
-enum { SUITING_MAX = 5 };
-
 typedef struct {
     uint32_t pid;
     length_rule lengths;
-    uint32_t results[SUITING_MAX];
-    unsigned result_count;
-    const char *results_text;
+    const char *results;
 } pid_rule;
 
 static const pid_rule pid_rules[] = {
     {GRIMHOLDI_PID_OUT, {0, GRIMHOLDI_PAYLOAD_MAX, "0 to 64"},
-     {GRIMHOLDI_RESULT_ACK, GRIMHOLDI_RESULT_NAK, GRIMHOLDI_RESULT_STALL,
-      GRIMHOLDI_RESULT_FAILURE}, 4,
      "ACK, NAK, STALL and failure"},
     {GRIMHOLDI_PID_IN, {0, 0, "none"},
-     {GRIMHOLDI_RESULT_DATA0, GRIMHOLDI_RESULT_DATA1, GRIMHOLDI_RESULT_NAK,
-      GRIMHOLDI_RESULT_STALL, GRIMHOLDI_RESULT_FAILURE}, 5,
      "DATA0, DATA1, NAK, STALL and failure"},
     {GRIMHOLDI_PID_SETUP,
      {GRIMHOLDI_SETUP_LENGTH, GRIMHOLDI_SETUP_LENGTH, "8"},
-     {GRIMHOLDI_RESULT_ACK, GRIMHOLDI_RESULT_FAILURE}, 2,
      "ACK and failure"}
 };
 
@@ -59,18 +50,7 @@ const length_rule *result_lengths(uint32_t result)
            ? &data : &handshake;
 }
 
-int result_suits(uint32_t pid, uint32_t result)
-{
-    const pid_rule *rule = rule_of(pid);
-    unsigned i;
-
-    for (i = 0; i < rule->result_count; i++)
-        if (rule->results[i] == result)
-            return 1;
-    return 0;
-}
-
 const char *suiting_results(uint32_t pid)
 {
-    return rule_of(pid)->results_text;
+    return rule_of(pid)->results;
 }

@@ -17,8 +17,7 @@ const length_rule *start_lengths(uint32_t pid);
 /* Payload of this result; NULL for a result without a name. */
 const length_rule *result_lengths(uint32_t result);
 
-/* The results of a transaction with this PID, which has a name. */
-int result_suits(uint32_t pid, uint32_t result);
+/* What may be delivered for this PID, which has a name. */
 const char *suiting_results(uint32_t pid);
 
 #endif

@@ -23,10 +23,9 @@ use Rattle.buffer.specs.declared.Slot.{Slot}
 use Rattle.buffer.specs.declared.Slot.the-variants.{Empty, Pending, Ready, Old}
 use Rattle.buffer.specs.declared.Buffer.{Buffer}
 use Rattle.buffer.specs.Key.{sameLane}
-use Rattle.buffer.specs.Lengths.{numbersFit, suits, resultLength}
 use Rattle.buffer.specs.Valid.{slotFits, Whole}
 use Rattle.translator.specs.Answers.{pidNumber}
-use Rattle.translator.proofs.Kept.{start-le, result-le}
+use Rattle.translator.proofs.Kept.{slot-le}
 use Rattle.numbers.specs.Named.{isPid, pidFrom, isType, typeFrom, isResult, resultFrom}
 use Rattle.numbers.specs.Written.{typeNumber, resultWritten}
 use Rattle.numbers.proofs.Laws.{numbers-claims}
@@ -184,12 +183,6 @@ module _ (l : List ℕ) where
       go false z q = held-to (eqb-false (getD l 0 0) 0 z) q
 
 -- ---- zeros behind a payload
-
-slot-le : (s : Slot) (n : ℕ) → slotFits s n ≡ true → n ≤ 64
-slot-le Empty n e = omega (arith, eqb-true n 0 e)
-slot-le (Pending s p) n e = start-le s n e
-slot-le (Ready s r) n e = result-le r n (and-eq-true-iff (suits (s .pid) r) (resultLength r n) .0 (and-eq-true-iff (numbersFit s) (suits (s .pid) r && resultLength r n) .0 e .1) .1)
-slot-le (Old s r) n e = result-le r n (and-eq-true-iff (suits (s .pid) r) (resultLength r n) .0 (and-eq-true-iff (numbersFit s) (suits (s .pid) r && resultLength r n) .0 e .1) .1)
 
 zeros-to : (b : List ℕ) (n : ℕ) → length b ≡ 64 → n ≤ 64 → blank (drop n b) ≡ true → b ≡ padded (take n b)
 unfolding padded

@@ -1,7 +1,9 @@
 pub mod Parts
+pub mod Over
 pub mod Area
 pub mod Ports
 pub mod Buffers
 pub mod Ties
 pub mod Lanes
 pub mod Exact
+pub mod Cases

@@ -1,9 +1,13 @@
 -- Reading an area. A reader must believe: an area that is taken gives the hub that its bytes stand for, and any other gives none.
-use Prim.Native.Nat.{ℕ}
+use Prim.Native.Nat.{ℕ, _+_}
 use mathlib.Core.List.{List}
 use mathlib.Core.Bool.{true, false, cond}
+use lib.ListN.{length, take, drop}
+use lib.Dec.{leb}
+use Rattle.buffer.specs.declared.Buffer.{Buffer}
+use Rattle.buffer.specs.Buffer.{vacant}
 use Rattle.hub.specs.Hub.{hubOf}
-use Rattle.taken.specs.Read.{decoded, accepts}
+use Rattle.taken.specs.Read.{bufferOf, decoded, accepts}
 use Rattle.area.specs.declared.Read.{Read}
 
 -- a refused area gives no hub
@@ -12,3 +16,7 @@ refusal = record { ok = false; hub = hubOf 0 0 0 0 0 }
 
 unfoldable pub readOf : List ℕ → Read
 readOf a = cond (accepts a) (record { ok = true; hub = decoded a }) refusal
+
+-- the buffer whose 72 bytes begin at n; an empty one where the area doesn't have them
+unfoldable pub bufferFrom : ℕ → List ℕ → Buffer
+bufferFrom n a = cond (leb (n + 72) (length a)) (bufferOf (take 72 (drop n a))) vacant

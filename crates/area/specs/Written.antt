@@ -3,7 +3,7 @@
 use Prim.Native.Nat.{ℕ, _+_, _*_, min}
 use mathlib.Core.List.{List, [], _∷_, _++_}
 use mathlib.Core.Bool.{Bool, cond, _&&_}
-use lib.ListN.{length, take}
+use lib.ListN.{length, take, drop}
 use lib.Dec.{eqb, leb}
 use Rattle.port.specs.declared.Speed.{Speed}
 use Rattle.port.specs.declared.Speed.the-variants.{Low, Full, High}
@@ -94,6 +94,14 @@ slotBytes (Old s r) n = heldBytes 3 s (resultWritten r) n
 -- then 64 bytes: the payload, and zeros behind it
 unfoldable pub bufferBytes : Buffer → List ℕ
 bufferBytes b = slotBytes (b .slot) (b .payload .len) ++ b .payload .bytes
+
+-- k bytes from n on are p now
+abbrev pub placed : ℕ → ℕ → List ℕ → List ℕ → List ℕ
+placed n k p a = take n a ++ (p ++ drop (n + k) a)
+
+-- the area with this buffer's 72 bytes from n on, where it has them
+unfoldable pub bufferPut : ℕ → Buffer → List ℕ → List ℕ
+bufferPut n b a = cond (leb (n + 72) (length a)) (placed n 72 (bufferBytes b) a) a
 
 -- ---- the hub
 

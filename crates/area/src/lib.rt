@@ -6,11 +6,13 @@ ghost use lib.ListN.{length, getD, take};
 ghost use Rattle.port.specs.Status.{bit, byteOf};
 ghost use Rattle.numbers.specs.Named.{pidFrom, typeFrom, resultFrom};
 ghost use Rattle.taken.specs.Rows.{flat};
-ghost use Rattle.area.specs.Written.{stateByte, speedNumber, speedByte, ticksByte, marksByte, portBytes, heldBytes, slotBytes, bufferBytes, lowByte, runningByte, headBytes, areaLength, writtenOver};
+ghost use Rattle.area.specs.Written.{stateByte, speedNumber, speedByte, ticksByte, marksByte, portBytes, heldBytes, slotBytes, bufferBytes, lowByte, runningByte, headBytes, bufferPut, areaLength, writtenOver};
 ghost use Rattle.taken.specs.Read.{speedOf, stateOf, markedPort, portOf, heldSplit, slotOf, bufferOf, lowOf, portsOf, buffersOf, decoded};
-ghost use Rattle.area.specs.Read.{refusal, readOf};
+ghost use Rattle.area.specs.Read.{bufferFrom, refusal, readOf};
 ghost use Rattle.area.specs.Claims.{AreaExact};
+ghost use Rattle.area.specs.Cases.{ValidCases};
 use buffer::Buffer;
+use buffer::BufferCount;
 use buffer::BufferNumber;
 use buffer::DeviceAddress;
 use buffer::DeviceResult;
@@ -37,7 +39,7 @@ pub struct Read {
 
 // ---- bytes
 
-pub fn fill(dst: &mut [u8], src: &[u8])
+fn fill(dst: &mut [u8], src: &[u8])
     requires { ⌜ length (now src) ≡ length (now dst) ⌝ }
     ensures { λ _. ⌜ now (dst .exit) ≡ now (src .entry) ⌝ }
 {
@@ -224,7 +226,7 @@ fn held_split(b: &[u8]) -> StartSplit
     }
 }
 
-pub fn slot_of(b: &[u8]) -> Slot
+fn slot_of(b: &[u8]) -> Slot
     requires { ⌜ length (now b) ≡ 72 ⌝ }
     ensures { λ r. ⌜ r ≡ slotOf (now (b .entry)) ⌝ }
 {
@@ -238,7 +240,7 @@ pub fn slot_of(b: &[u8]) -> Slot
     }
 }
 
-pub fn buffer_of(b: &[u8]) -> Buffer
+fn buffer_of(b: &[u8]) -> Buffer
     requires { ⌜ length (now b) ≡ 72 ⌝ }
     ensures { λ r. ⌜ r ≡ bufferOf (now (b .entry)) ⌝ }
 {
@@ -288,7 +290,7 @@ fn slot_bytes(slot: Slot, len: u8) -> [u8; 8]
     }
 }
 
-pub fn put_buffer(out: &mut [u8], b: Buffer)
+fn put_buffer(out: &mut [u8], b: Buffer)
     requires { ⌜ length (now out) ≡ 72 ⌝ }
     ensures { λ _. ⌜ now (out .exit) ≡ bufferBytes b ⌝ }
 {
@@ -298,6 +300,44 @@ pub fn put_buffer(out: &mut [u8], b: Buffer)
     let head = slot_bytes(slot, payload.len);
     fill(&mut out[0..8], &head);
     fill(&mut out[8..72], &bytes);
+}
+
+// ---- one buffer in an area, its 72 bytes from `at` on
+
+// Its slot; empty where the area doesn't have the bytes.
+pub fn slot_at(area: &[u8], at: u16) -> Slot
+    ensures { λ r. ⌜ r ≡ bufferFrom at (now (area .entry)) .slot ⌝ }
+{
+    let start = at as usize;
+    let end = start + 72;
+    if area.len() < end {
+        return Slot::Empty;
+    }
+    slot_of(&area[start..end])
+}
+
+// The whole of it; an empty one where the area doesn't have the bytes.
+pub fn buffer_at(area: &[u8], at: u16) -> Buffer
+    ensures { λ r. ⌜ r ≡ bufferFrom at (now (area .entry)) ⌝ }
+{
+    let start = at as usize;
+    let end = start + 72;
+    if area.len() < end {
+        return Buffer::vacant();
+    }
+    buffer_of(&area[start..end])
+}
+
+// The buffer over those bytes, where the area has them.
+pub fn put_buffer_at(buffer: Buffer, area: &mut [u8], at: u16)
+    ensures { λ _. ⌜ now (area .exit) ≡ bufferPut at buffer (now (area .entry)) ⌝ }
+{
+    let start = at as usize;
+    let end = start + 72;
+    if area.len() < end {
+        return;
+    }
+    put_buffer(&mut area[start..end], buffer);
 }
 
 // ---- rows of ports and buffers
@@ -391,12 +431,12 @@ pub fn running_byte(low: LowSide) -> u8
     }
 }
 
-fn head_bytes(identity: Identity, configured: bool, count: u8, low: LowSide) -> [u8; 8]
-    ensures { λ r. ⌜ r ≡ headBytes identity configured count low ⌝ }
+fn head_bytes(identity: Identity, configured: bool, count: BufferCount, low: LowSide) -> [u8; 8]
+    ensures { λ r. ⌜ r ≡ headBytes identity configured (count .0) low ⌝ }
 {
     [
         identity.ports,
-        count,
+        count.0,
         identity.powergood,
         identity.current,
         identity.removable,
@@ -472,7 +512,7 @@ fn refuse() -> Read
             identity,
             configured: false,
             ports: [Port::new(); 7],
-            translator: Translator::new(0),
+            translator: Translator::new(BufferCount(0)),
         },
     }
 }
@@ -502,7 +542,8 @@ pub fn write_area(hub: Hub, area: &mut [u8])
         return;
     }
     let low = translator.low;
-    let head = head_bytes(identity, hub.configured, translator.count, low);
+    let count = BufferCount(translator.count);
+    let head = head_bytes(identity, hub.configured, count, low);
     let ports = hub.ports;
     let buffers = translator.buffers;
     fill(&mut area[0..8], &head);
@@ -513,4 +554,9 @@ pub fn write_area(hub: Hub, area: &mut [u8])
 // Acceptance is exact; the function does nothing.
 fn area_exact()
     ensures { λ _. ⌜ AreaExact ⌝ }
+{}
+
+// What is valid and what isn't, clause by clause; the function does nothing.
+fn valid_cases()
+    ensures { λ _. ⌜ ValidCases ⌝ }
 {}

@@ -1,7 +1,7 @@
 -- The test of two keys is their equality. Assumes nothing.
 use mathlib.Core.Path.{_≡_, refl, sym, _∙_, ap}
-use mathlib.Core.Bool.{Bool, true, false, _&&_, and-eq-true-iff, false≢true}
-use borrow.Author.Tests.{eqb-true, eq-eqb}
+use mathlib.Core.Bool.{Bool, true, false, _&&_, and-eq-true-iff, and-false, false≢true}
+use borrow.Author.Tests.{eqb-true, eq-eqb, ne-eqb}
 use lib.Dec.{eqb}
 use Rattle.buffer.specs.declared.Lane.{Lane}
 use Rattle.buffer.specs.declared.Lane.the-variants.{Zero, One}
@@ -66,3 +66,14 @@ key? a b = go (sameKey a b) refl
 
 pub key-test-holds : KeyTest
 key-test-holds a b = (same-true a b, same-eq a b)
+
+-- ---- by their address first
+
+pub address-differs : (a b : Key) → ¬ (a .address .0 ≡ b .address .0) → false ≡ sameKey a b
+unfolding sameKey
+address-differs a b d = rw (ne-eqb (a .address .0) (b .address .0) d) (sym (and-false (sameLane (a .lane) (b .lane))))
+
+pub address-same : (a b : Key) → a .address .0 ≡ b .address .0
+    → (sameLane (a .lane) (b .lane) && (eqb (a .endpoint) (b .endpoint) && sameDirection (a .direction) (b .direction))) ≡ sameKey a b
+unfolding sameKey
+address-same a b e = rw (eq-eqb (a .address .0) (b .address .0) e)

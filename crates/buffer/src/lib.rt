@@ -8,6 +8,9 @@ use payload::Payload;
 // The number of a buffer, counted from 0. No port number and no device address can stand for it.
 pub struct BufferNumber(pub u8);
 
+// How many buffers a translator has.
+pub struct BufferCount(pub u8);
+
 // The address of a device on the bus, 0 to 127.
 pub struct DeviceAddress(pub u8);
 
@@ -148,20 +151,20 @@ impl Key {
         }
     }
 
-    // The one test of keys.
+    // The one test of keys. Most differ in their address.
     pub fn same(self, other: Key) -> bool
         ensures { λ r. ⌜ r ≡ sameKey self other ⌝ }
     {
+        if self.address.0 != other.address.0 {
+            return false;
+        }
         let here = self.lane;
         let there = other.lane;
         let mine = self.direction;
         let theirs = other.direction;
         logic::both(
             here.same(there),
-            logic::both(
-                self.address.0 == other.address.0,
-                logic::both(self.endpoint == other.endpoint, mine.same(theirs)),
-            ),
+            logic::both(self.endpoint == other.endpoint, mine.same(theirs)),
         )
     }
 }

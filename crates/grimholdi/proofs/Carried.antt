@@ -5,7 +5,7 @@ use mathlib.Core.Path.{_≡_, refl, sym, _∙_, ap, ap₂, subst}
 use mathlib.Core.Bool.{Bool, true, false, cond}
 use mathlib.Core.List.{List, [], _∷_, _++_, map}
 use lib.Dec.{eqb, leb}
-use lib.ListN.{length, take, drop}
+use lib.ListN.{length, take, drop, length-append, length-drop}
 use lib.Seq.{take-all, take-append-seam}
 use borrow.Author.Tests.{leb-true}
 use Rattle.payload.specs.Payload as payload
@@ -18,29 +18,27 @@ use Rattle.hub.proofs.Order.{by-step}
 use Rattle.hub.proofs.Claimed.{hub-claims}
 use Rattle.runs.specs.History.{Event}
 use Rattle.runs.specs.Machine.{Machine, newHubOf, rules, runFrom, run, afterFrom}
+use Rattle.runs.specs.Altered.{withBytes}
 use Rattle.runs.specs.Demand2.{Demand2}
 use Rattle.runs.specs.Demand3.{Marks, onlyKey, everyKeyOf, SameCalls, SameAnswers, Hidden, AllExplained, Demand3}
 use Rattle.runs.specs.Order.{AllOrdered, LaunchOrder}
 use Rattle.runs.specs.ErrorReports.{AllShow, ErrorReports}
 use Rattle.runs.specs.Tally.{tallyOf, activeBuffers, past, TallyHolds}
 use Rattle.runs.specs.Share.{holding, AllShared, LaneShare}
-use Rattle.runs.specs.Refusals.{Refusal, numberOf}
-use Rattle.runs.proofs.HidingHub.{with-bytes}
 use Rattle.runs.proofs.Theorems.{demand-3}
 use Rattle.runs.proofs.LineSteps.{launch-order}
 use Rattle.runs.proofs.Reporting.{error-reports}
 use Rattle.runs.proofs.Reaching.{reached}
 use Rattle.runs.proofs.Tallied.{tally-holds}
 use Rattle.runs.proofs.Sharing.{lane-share}
-use Rattle.runs.proofs.Refusing.{refusals}
 use Rattle.area.specs.Written.{written}
 use Rattle.area.specs.declared.Read.{Read}
 use Rattle.area.specs.Read.{readOf}
 use Rattle.area.proofs.Exact.{area-exact}
 use Rattle.grimholdi.specs.Entry.{Gave, gaveBy}
-use Rattle.grimholdi.specs.Runs.{Asked, control, poll, startSplit, completeSplit, launch, deliver, lineEvent, tick, busReset, callOf, replyOf, gives, seen, NewArea, filled, entries, AreaFollows, EntryRefusals}
-use Rattle.grimholdi.proofs.Taken.{none-written}
-use Rattle.grimholdi.proofs.Ways.{taken-hub, entry-taken, entry-refused, new-made}
+use Rattle.grimholdi.specs.Asked.{Asked, control, poll, startSplit, completeSplit, launch, deliver, lineEvent, tick, busReset, callOf, replyOf, gives}
+use Rattle.grimholdi.specs.Runs.{seen, NewArea, filled, entries, AreaFollows}
+use Rattle.grimholdi.proofs.Ways.{entry-taken, new-made}
 
 -- ---- bytes in a reply space that has room for them
 
@@ -48,13 +46,17 @@ drop-seam : (xs ys : List ℕ) → drop (length xs) (xs ++ ys) ≡ ys
 drop-seam [] ys = refl
 drop-seam (x ∷ xs) ys = drop-seam xs ys
 
-seen-is : (d r : List ℕ) → length d ≤ length r → take (length d) (payload.written d r) ≡ d
+pub seen-is : (d r : List ℕ) → length d ≤ length r → take (length d) (payload.written d r) ≡ d
 unfolding payload.written
 seen-is d r l = rw (take-all (length r) d l, take-append-seam d (drop (length d) r))
 
-behind-is : (d r : List ℕ) → length d ≤ length r → drop (length d) (payload.written d r) ≡ drop (length d) r
+pub behind-is : (d r : List ℕ) → length d ≤ length r → drop (length d) (payload.written d r) ≡ drop (length d) r
 unfolding payload.written
 behind-is d r l = rw (take-all (length r) d l) (drop-seam d (drop (length d) r))
+
+pub same-long : (d r : List ℕ) → length d ≤ length r → length (payload.written d r) ≡ length r
+unfolding payload.written
+same-long d r l = rw (take-all (length r) d l) (length-append d (drop (length d) r) ∙ omega (arith, l, length-drop (length d) r))
 
 none-fits : (d r : List ℕ) → d ≡ [] → length d ≤ length r
 none-fits d r e = let z : length d ≡ 0 = ap length e in omega (arith, z)
@@ -83,7 +85,7 @@ module _ (h : Hub) (v : ValidHub h) where
   none-given : (c : Call) → served h c .answer .bytes ≡ [] → step h c .answer .bytes ≡ []
   none-given c e = by-step h c (λ (o : Outcome). o .answer .bytes ≡ []) (λ n. refl) (λ w f. e)
 
-  fits-reply : (x : Asked) → length (step h (callOf x) .answer .bytes) ≤ length (replyOf x)
+  pub fits-reply : (x : Asked) → length (step h (callOf x) .answer .bytes) ≤ length (replyOf x)
   unfolding roomy served
   fits-reply (control z s r) = room-enough (Control z s (length r)) r refl
   fits-reply (poll z r) = room-enough (Poll z (length r)) r refl
@@ -103,7 +105,7 @@ module _ (h : Hub) (v : ValidHub h) where
   pub answer-same : (x : Asked) → seen (gives (written h) x) ≡ step h (callOf x) .answer
   answer-same x =
       let a = step h (callOf x) .answer in
-      ap seen (gives-taken x) ∙ ap (with-bytes a) (seen-is (a .bytes) (replyOf x) (fits-reply x))
+      ap seen (gives-taken x) ∙ ap (withBytes a) (seen-is (a .bytes) (replyOf x) (fits-reply x))
 
   pub next-same : (x : Asked) → gives (written h) x .area ≡ written (step h (callOf x) .next)
   next-same x = ap (λ (g : Gave). g .area) (gives-taken x)
@@ -140,7 +142,7 @@ module _ (m : NewArea) where
 pub demand-2 : Demand2 entries
 demand-2 m xs = ap (λ (a : List ℕ). runFrom entries a xs) (filled-is m) ∙ follows xs (newHubOf (m .numbers)) (new-hub m)
 
-pub area-follows : AreaFollows
+pub area-follows : AreaFollows gives
 area-follows m xs = ap (λ (a : List ℕ). afterFrom entries a xs) (filled-is m) ∙ leaves xs (newHubOf (m .numbers)) (new-hub m)
 
 -- a machine that keeps demand 2 keeps what the rules' runs keep
@@ -149,12 +151,12 @@ module _ (w : Machine) (d : Demand2 w) where
   ruled-run n cs = run rules (w .numbers n) (map (w .call) cs)
 
   hidden : (k : Marks) → Hidden w k
-  hidden k n cs ds s =
-      subst (λ (x : List Event). SameAnswers k x (run w n ds)) (sym (d n cs))
-      (subst (λ (y : List Event). SameAnswers k (ruled-run n cs) y) (sym (d n ds))
-      (demand-3 .set-hidden k (w .numbers n) (map (w .call) cs) (map (w .call) ds)
-      (subst (λ (y : List Event). SameCalls k [] (ruled-run n cs) y) (d n ds)
-      (subst (λ (x : List Event). SameCalls k [] x (run w n ds)) (d n cs) s))))
+  hidden k n o cs ds e s =
+      subst (λ (x : List Event). SameAnswers k x (run w o ds)) (sym (d n cs))
+      (subst (λ (y : List Event). SameAnswers k (ruled-run n cs) y) (sym (d o ds))
+      (demand-3 .set-hidden k (w .numbers n) (w .numbers o) (map (w .call) cs) (map (w .call) ds) e
+      (subst (λ (y : List Event). SameCalls k [] (ruled-run n cs) y) (d o ds)
+      (subst (λ (x : List Event). SameCalls k [] x (run w o ds)) (d n cs) s))))
 
   pub carried-3 : Demand3 w
   carried-3 =
@@ -190,48 +192,3 @@ carried-tally m xs =
     (sym (read-reached m xs))
     (subst (λ (es : List Event). tallyOf (past [] es) .stored ≡ tallyOf (past [] es) .answered + tallyOf (past [] es) .emptied + activeBuffers (afterFrom rules (newHubOf (m .numbers)) (map callOf xs)))
     (sym (demand-2 m xs)) (tally-holds (m .numbers) (map callOf xs)))
-
--- ---- refusals
-
-module _ (a : List ℕ) (x : Asked) where
-  as-it-was : (r : Refusal) → gives a x .answer .number ≡ numberOf r → (gives a x .area ≡ a) × (gives a x .reply ≡ replyOf x)
-  as-it-was r e = go (readOf a .ok) refl
-    where
-      go : (b : Bool) → readOf a .ok ≡ b → (gives a x .area ≡ a) × (gives a x .reply ≡ replyOf x)
-      go true p =
-          let h = readOf a .hub in
-          let t = taken-hub a (readOf a) refl p in
-          let g = entry-taken a (readOf a) refl p (callOf x) (replyOf x) in
-          let u = refusals .unchanged r h (callOf x) (t .0) (sym (ap (λ (y : Gave). y .answer .number) g) ∙ e) in (
-            ap (λ (y : Gave). y .area) g ∙ ap written (u .0) ∙ sym (t .1),
-            ap (λ (y : Gave). y .reply) g ∙ ap (λ (d : List ℕ). payload.written d (replyOf x)) (u .1) ∙ none-written (replyOf x),
-          )
-      go false p =
-          let g = entry-refused a (readOf a) refl p (callOf x) (replyOf x) in
-          (ap (λ (y : Gave). y .area) g, ap (λ (y : Gave). y .reply) g)
-
-  abbrev Behind : Gave → Type 0
-  Behind g = drop (g .answer .length) (g .reply) ≡ drop (g .answer .length) (replyOf x)
-
-  behind : Behind (gives a x)
-  behind = go (readOf a .ok) refl
-    where
-      go : (b : Bool) → readOf a .ok ≡ b → Behind (gives a x)
-      go true p =
-          let h = readOf a .hub in
-          let t = taken-hub a (readOf a) refl p in
-          subst Behind (sym (entry-taken a (readOf a) refl p (callOf x) (replyOf x)))
-          (behind-is (step h (callOf x) .answer .bytes) (replyOf x) (fits-reply h (t .0) x))
-      go false p = subst Behind (sym (entry-refused a (readOf a) refl p (callOf x) (replyOf x))) refl
-
-pub entry-refusals : EntryRefusals
-entry-refusals =
-    record {
-      bad-area = λ a x n. entry-refused a (readOf a) refl (area-exact .refused a .1 n) (callOf x) (replyOf x);
-      exactly = λ r h x v.
-          let q = ap (λ (g : Gave). g .answer .number) (gives-taken h v x) in
-          let due = refusals .exactly r h (callOf x) v in
-          (λ e. due .0 (sym q ∙ e), λ e. q ∙ due .1 e);
-      unchanged = λ r a x e. as-it-was a x r e;
-      behind = behind;
-    }

@@ -49,8 +49,8 @@ module _ (a : List ℕ) (ok : accepts a ≡ true) (hd : Head) (e : hd ≡ headAt
   unfolding within roomy heard
   complete-refused z x ex = stays a ok call r n (early a ok call g ew refl (configured-is a ok hd e) z) x ex
 
-  module _ (z : n ≡ 0) (s : List Slot) (es : s ≡ slotsAt (hd .ports) a) (k : Key) (ek : k ≡ keyFrom lane address endpoint direction) {f : Found}
-      (ef : f ≡ find (holds k) (take (hd .count) (bare s))) where
+  module _ (z : n ≡ 0) (s : List Slot) (es : s ≡ slotsAt (hd .ports .0) a) (k : Key) (ek : k ≡ keyFrom lane address endpoint direction) {f : Found}
+      (ef : f ≡ find (holds k) (take (hd .count .0) (bare s))) where
     by-found : (b : Found) → f ≡ b → step h call ≡ completedAs h (completeAt t b)
     unfolding within roomy heard fitting served completeSplit
     by-found b i =
@@ -59,14 +59,14 @@ module _ (a : List ℕ) (ok : accepts a ≡ true) (hd : Head) (e : hd ≡ headAt
         ∙ ap (λ (x : Found). completedAs h (completeAt t x))
         (sym (find-bare (holds k) (t .count) (t .buffers))
         ∙ ap (λ (x : List Slot). find (holds k) (take (t .count) (bare x))) (sym (slots-are a ok hd e s es))
-        ∙ ap (λ (x : Head). find (holds k) (take (x .count) (bare s))) (sym (head-is a ok hd e))
+        ∙ ap (λ (x : Head). find (holds k) (take (x .count .0) (bare s))) (sym (head-is a ok hd e))
         ∙ sym ef
         ∙ i)
 
     pub nowhere : f ≡ Nowhere → (x : Answer) → x ≡ plainSaid 2 → Unchanged a call r x
     nowhere i x ex = stays a ok call r 2 (by-found Nowhere i) x ex
 
-    module _ {m : BufferNumber} (p : f ≡ At m) (b : Buffer) (eb : b ≡ bufferAt (hd .ports) m a) where
+    module _ {m : BufferNumber} (p : f ≡ At m) (b : Buffer) (eb : b ≡ bufferAt (hd .ports .0) m a) where
       by-slot : (c : Slot) → b .slot ≡ c → step h call ≡ completedAs h (completed t m (b .payload) c)
       by-slot c i =
           by-found (At m) p
@@ -80,13 +80,13 @@ module _ (a : List ℕ) (ok : accepts a ≡ true) (hd : Head) (e : hd ≡ headAt
       on-pending i x ex = stays a ok call r 4 (by-slot _ i) x ex
 
       pub on-ready : {k : StartSplit} {d : DeviceResult} → b .slot ≡ Ready k d → (x : Answer) (u v : List ℕ)
-          → u ≡ bufferOver (hd .ports) m (record { slot = Old k d; payload = b .payload }) a
+          → u ≡ bufferOver (hd .ports .0) m (record { slot = Old k d; payload = b .payload }) a
           → (x ≡ resultSaid d (content (given d (b .payload)))) × (v ≡ written (content (given d (b .payload))) r) → Gives a call r x u v
       on-ready {k} {d} i x u v eu q =
           let old : Buffer = record { slot = Old k d; payload = b .payload } in
           moves a ok call r _ (by-slot (Ready k d) i) x u v (q .0)
           (eu
-          ∙ ap (λ (y : Head). bufferOver (y .ports) m old a) (head-is a ok hd e)
+          ∙ ap (λ (y : Head). bufferOver (y .ports .0) m old a) (head-is a ok hd e)
           ∙ ap (bufferOver (h .identity .ports) m old) (form a ok)
           ∙ parts-exact .buffer-put h m old (valid a ok))
           (q .1)

@@ -106,7 +106,7 @@ module _ (a : List ℕ) (ok : accepts a ≡ true) (hd : Head) (e : hd ≡ headAt
     pub abandoned : hd .low ≡ Abandoned → (x : Answer) (u : List ℕ) → x ≡ plainSaid 0 → u ≡ lowOver Idle a → Leaves a call x u
     abandoned i x u ex eu = leaves a ok call _ (by-low Abandoned i) x u ex (eu ∙ low-left)
 
-    module _ {m : BufferNumber} (i : hd .low ≡ Running m) (s : Slot) (es : s ≡ bufferAt (hd .ports) m a .slot) where
+    module _ {m : BufferNumber} (i : hd .low ≡ Running m) (s : Slot) (es : s ≡ bufferAt (hd .ports .0) m a .slot) where
       by-slot : (b : Slot) → s ≡ b → step h call ≡ deliveredAs h (delivered t k l m b)
       by-slot b j =
           by-low (Running m) i
@@ -136,13 +136,13 @@ module _ (a : List ℕ) (ok : accepts a ≡ true) (hd : Head) (e : hd ≡ headAt
         unsuited q x ex = rests a ok call 8 (by-test false q) x ex
 
         pub suited : f ≡ true → (x : Answer) (u : List ℕ) → x ≡ plainSaid 0
-            → u ≡ bufferOver (hd .ports) m (record { slot = Ready p k; payload = payloadOf l }) (lowOver Idle a) → Leaves a call x u
+            → u ≡ bufferOver (hd .ports .0) m (record { slot = Ready p k; payload = payloadOf l }) (lowOver Idle a) → Leaves a call x u
         suited q x u ex eu =
             let b : Buffer = record { slot = Ready p k; payload = payloadOf l } in
             leaves a ok call _ (by-test true q) x u ex
             (eu
-            ∙ ap (bufferOver (hd .ports) m b) low-left
-            ∙ ap (λ (y : Head). bufferOver (y .ports) m b (form-of (withTranslator h (withLow t Idle)))) (head-is a ok hd e)
+            ∙ ap (bufferOver (hd .ports .0) m b) low-left
+            ∙ ap (λ (y : Head). bufferOver (y .ports .0) m b (form-of (withTranslator h (withLow t Idle)))) (head-is a ok hd e)
             ∙ buffer-anew (withTranslator h (withLow t Idle)) between m b)
           where
             between : Shaped (withTranslator h (withLow t Idle))

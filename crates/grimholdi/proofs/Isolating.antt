@@ -23,7 +23,9 @@ use Rattle.taken.specs.Rows.{flat}
 use Rattle.area.specs.Written.{portBytes, bufferBytes, headBytes, written, areaLength}
 use Rattle.area.specs.Read.{readOf}
 use Rattle.area.proofs.Exact.{area-exact}
-use Rattle.grimholdi.specs.Runs.{Asked, callOf, NewArea, filled, entries, portPlace, SameAreaBut, EntryIsolation}
+use Rattle.grimholdi.specs.Asked.{Asked, callOf}
+use Rattle.grimholdi.specs.Runs.{NewArea, filled, entries}
+use Rattle.grimholdi.specs.Isolation.{portPlace, SameAreaBut, EntryIsolation}
 use Rattle.grimholdi.proofs.Carried.{answer-same, area-follows, read-reached}
 
 -- ---- the written form of a hub with port p put back

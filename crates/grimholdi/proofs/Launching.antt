@@ -82,7 +82,7 @@ module _ (a : List ℕ) (ok : accepts a ≡ true) (hd : Head) (e : hd ≡ headAt
     pub abandoned : hd .low ≡ Abandoned → (x : Answer) → x ≡ plainSaid 8 → Unchanged a call r x
     abandoned l x ex = stays a ok call r 8 (served-is ∙ ap (λ (y : LowSide). launchedAs h (launchBy t y)) l) x ex
 
-    module _ (l : hd .low ≡ Idle) (s : List Slot) (es : s ≡ slotsAt (hd .ports) a) {f : Earliest} (ef : f ≡ earliest (take (hd .count) (bare s))) where
+    module _ (l : hd .low ≡ Idle) (s : List Slot) (es : s ≡ slotsAt (hd .ports .0) a) {f : Earliest} (ef : f ≡ earliest (take (hd .count .0) (bare s))) where
       idle : step h call ≡ launchedAs h (launchAt t f)
       idle =
           served-is
@@ -90,13 +90,13 @@ module _ (a : List ℕ) (ok : accepts a ≡ true) (hd : Head) (e : hd ≡ headAt
           ∙ ap (λ (y : Earliest). launchedAs h (launchAt t y))
           (sym (earliest-bare (t .count) (t .buffers))
           ∙ ap (λ (y : List Slot). earliest (take (t .count) (bare y))) (sym (slots-are a ok hd e s es))
-          ∙ ap (λ (y : Head). earliest (take (y .count) (bare s))) (sym (head-is a ok hd e))
+          ∙ ap (λ (y : Head). earliest (take (y .count .0) (bare s))) (sym (head-is a ok hd e))
           ∙ sym ef)
 
       pub none-pending : f ≡ NonePending → (x : Answer) → x ≡ plainSaid 3 → Unchanged a call r x
       none-pending p x ex = stays a ok call r 3 (idle ∙ ap (λ (y : Earliest). launchedAs h (launchAt t y)) p) x ex
 
-      module _ {m : BufferNumber} {q : ℕ} (p : f ≡ Stored m q) (b : Buffer) (eb : b ≡ bufferAt (hd .ports) m a) where
+      module _ {m : BufferNumber} {q : ℕ} (p : f ≡ Stored m q) (b : Buffer) (eb : b ≡ bufferAt (hd .ports .0) m a) where
         by-slot : (k : Slot) → b .slot ≡ k → step h call ≡ launchedAs h (launched t m (b .payload) k)
         by-slot k i =
             idle

@@ -5,5 +5,9 @@ pub mod Delivering
 pub mod Completing
 pub mod Starting
 pub mod Carried
+pub mod NewAreas
+pub mod Refusing
+pub mod Refuted
 pub mod Isolating
 pub mod Claimed
+pub mod Cases

@@ -55,8 +55,8 @@ module _ (a : List ℕ) (ok : accepts a ≡ true) (hd : Head) (e : hd ≡ headAt
   unfolding roomy heard
   start-refused z x ex = rests a ok call n (early a ok call g within-is refl (configured-is a ok hd e) z) x ex
 
-  module _ (z : n ≡ 0) (s : List Slot) (es : s ≡ slotsAt (hd .ports) a) (y : Key) (ey : y ≡ keyOf k) {f : Choice}
-      (ef : f ≡ permitted (hd .count) y (take (hd .count) (bare s))) where
+  module _ (z : n ≡ 0) (s : List Slot) (es : s ≡ slotsAt (hd .ports .0) a) (y : Key) (ey : y ≡ keyOf k) {f : Choice}
+      (ef : f ≡ permitted (hd .count .0) y (take (hd .count .0) (bare s))) where
     fits : startFits k (length l) ≡ true
     fits =
         right (splitNamed lane pid transfer lowspeed toggle address endpoint) (startFits k (length l))
@@ -72,7 +72,7 @@ module _ (a : List ℕ) (ok : accepts a ≡ true) (hd : Head) (e : hd ≡ headAt
         (ap (λ (x : Key). permitted (t .count) x (take (t .count) (t .buffers))) (sym ey)
         ∙ sym (permitted-bare (t .count) y (t .count) (t .buffers))
         ∙ ap (λ (x : List Slot). permitted (t .count) y (take (t .count) (bare x))) (sym (slots-are a ok hd e s es))
-        ∙ ap (λ (x : Head). permitted (x .count) y (take (x .count) (bare s))) (sym (head-is a ok hd e))
+        ∙ ap (λ (x : Head). permitted (x .count .0) y (take (x .count .0) (bare s))) (sym (head-is a ok hd e))
         ∙ sym ef
         ∙ i)
 
@@ -85,15 +85,15 @@ module _ (a : List ℕ) (ok : accepts a ≡ true) (hd : Head) (e : hd ≡ headAt
     pub held : {m : BufferNumber} → f ≡ Held m → (x : Answer) → x ≡ plainSaid 0 → Leaves a call x a
     held i x ex = rests a ok call 0 (by-choice _ i) x ex
 
-    store-left : (m : BufferNumber) → storeOver s (hd .ports) m k l a ≡ written (withTranslator h (stored t m k l))
+    store-left : (m : BufferNumber) → storeOver s (hd .ports .0) m k l a ≡ written (withTranslator h (stored t m k l))
     store-left m =
-        ap (λ (x : List Slot). storeOver x (hd .ports) m k l a) (slots-are a ok hd e s es)
-        ∙ ap (λ (x : Head). storeOver (slotsIn (t .buffers)) (x .ports) m k l a) (head-is a ok hd e)
+        ap (λ (x : List Slot). storeOver x (hd .ports .0) m k l a) (slots-are a ok hd e s es)
+        ∙ ap (λ (x : Head). storeOver (slotsIn (t .buffers)) (x .ports .0) m k l a) (head-is a ok hd e)
         ∙ ap (storeOver (slotsIn (t .buffers)) (h .identity .ports) m k l) (form a ok)
         ∙ parts-exact .store-put h m k l (valid a ok)
 
-    pub reused : {m : BufferNumber} → f ≡ Reused m → (x : Answer) (u : List ℕ) → x ≡ plainSaid 0 → u ≡ storeOver s (hd .ports) m k l a → Leaves a call x u
+    pub reused : {m : BufferNumber} → f ≡ Reused m → (x : Answer) (u : List ℕ) → x ≡ plainSaid 0 → u ≡ storeOver s (hd .ports .0) m k l a → Leaves a call x u
     reused {m} i x u ex eu = leaves a ok call _ (by-choice (Reused m) i) x u ex (eu ∙ store-left m)
 
-    pub took : {m : BufferNumber} → f ≡ Took m → (x : Answer) (u : List ℕ) → x ≡ plainSaid 0 → u ≡ storeOver s (hd .ports) m k l a → Leaves a call x u
+    pub took : {m : BufferNumber} → f ≡ Took m → (x : Answer) (u : List ℕ) → x ≡ plainSaid 0 → u ≡ storeOver s (hd .ports .0) m k l a → Leaves a call x u
     took {m} i x u ex eu = leaves a ok call _ (by-choice (Took m) i) x u ex (eu ∙ store-left m)

@@ -75,18 +75,18 @@ module _ (a : List ℕ) (ok : accepts a ≡ true) where
   -- ---- its parts
 
   module _ (hd : Head) (e : hd ≡ headAt a) where
-    pub head-is : hd ≡ record { ports = hubIn .identity .ports; count = hubIn .translator .count; configured = hubIn .configured; low = hubIn .translator .low }
+    pub head-is : hd ≡ record { ports = record { 0 = hubIn .identity .ports }; count = record { 0 = hubIn .translator .count }; configured = hubIn .configured; low = hubIn .translator .low }
     head-is = e ∙ ap headAt form ∙ parts-exact .head-got hubIn valid
 
     pub configured-is : hd .configured ≡ hubIn .configured
     configured-is = ap (λ (x : Head). x .configured) head-is
 
-    pub slots-are : (s : List Slot) → s ≡ slotsAt (hd .ports) a → s ≡ slotsIn (hubIn .translator .buffers)
-    slots-are s f = f ∙ ap (λ (x : Head). slotsAt (x .ports) a) head-is ∙ ap (slotsAt (hubIn .identity .ports)) form ∙ parts-exact .slots-got hubIn valid
+    pub slots-are : (s : List Slot) → s ≡ slotsAt (hd .ports .0) a → s ≡ slotsIn (hubIn .translator .buffers)
+    slots-are s f = f ∙ ap (λ (x : Head). slotsAt (x .ports .0) a) head-is ∙ ap (slotsAt (hubIn .identity .ports)) form ∙ parts-exact .slots-got hubIn valid
 
-    pub buffer-is : (n : BufferNumber) (b : Buffer) → b ≡ bufferAt (hd .ports) n a → b ≡ at (hubIn .translator .buffers) (n .0)
+    pub buffer-is : (n : BufferNumber) (b : Buffer) → b ≡ bufferAt (hd .ports .0) n a → b ≡ at (hubIn .translator .buffers) (n .0)
     buffer-is n b f =
-        f ∙ ap (λ (x : Head). bufferAt (x .ports) n a) head-is ∙ ap (bufferAt (hubIn .identity .ports) n) form ∙ parts-exact .buffer-got hubIn n valid
+        f ∙ ap (λ (x : Head). bufferAt (x .ports .0) n a) head-is ∙ ap (bufferAt (hubIn .identity .ports) n) form ∙ parts-exact .buffer-got hubIn n valid
 
   -- ---- the order of checks
 

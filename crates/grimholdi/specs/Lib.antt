@@ -1,2 +1,9 @@
 pub mod Entry
+pub mod Asked
 pub mod Runs
+pub mod New
+pub mod Refusals
+pub mod Isolation
+pub mod Claims
+pub mod Mistakes
+pub mod Cases

@@ -2,20 +2,22 @@
 // buffers, decide by them, and write only what changes.
 ghost use mathlib.Core.Path.{_≡_};
 ghost use mathlib.Core.Bool.{true};
-ghost use mathlib.Core.List.{[]};
-ghost use lib.ListN.{length};
 ghost use Rattle.payload.specs.Payload.{content, payloadOf, written as writtenBytes};
 ghost use Rattle.buffer.specs.declared.Slot.the-variants.{Ready, Old};
 ghost use Rattle.translator.specs.declared.LowSide.the-variants.{Idle};
+ghost use Rattle.translator.specs.Answers.{choiceNumber, completeNumber, launchNumber, deliverNumber};
 ghost use Rattle.translator.specs.CompleteSplit.{given};
 ghost use Rattle.taken.specs.Read.{accepts};
 ghost use Rattle.area.specs.Written.{areaLength, writtenOver};
 ghost use Rattle.hub.specs.Call.{outcomeOf};
 ghost use Rattle.hub.specs.Rules.{launchAnswer};
-ghost use Rattle.hub.specs.Call.Call.{Control, Poll, Start, Complete, Launch, Deliver, Event, Tick, BusReset};
 ghost use Rattle.parts.specs.Parts.{lowOver, bufferOver};
-ghost use Rattle.grimholdi.specs.Entry.{saidOf, plainSaid, resultSaid, entry, newEntry};
-ghost use Rattle.grimholdi.specs.Runs.{EntryClaims};
+ghost use Rattle.grimholdi.specs.Entry.{saidOf, plainSaid, resultSaid, newEntry};
+ghost use Rattle.grimholdi.specs.Asked.{gives};
+ghost use Rattle.grimholdi.specs.Asked.Asked.{control, poll, startSplit, completeSplit, launch, deliver, lineEvent, tick, busReset};
+ghost use Rattle.grimholdi.specs.Claims.{EntryClaims};
+ghost use Rattle.grimholdi.specs.Mistakes.{EntryMistakesShutOut};
+ghost use Rattle.grimholdi.specs.Cases.{EntryCases};
 use buffer::Buffer;
 use buffer::BufferNumber;
 use buffer::DeviceResult;
@@ -24,11 +26,15 @@ use buffer::StartSplit;
 use hub::Hub;
 use hub::Stepped;
 use payload::Payload;
+use port::PortCount;
 use translator::Choice;
 use translator::CompleteAnswer;
+use translator::DeliverAnswer;
 use translator::Earliest;
 use translator::Found;
+use translator::LaunchAnswer;
 use translator::LowSide;
+use translator::StartAnswer;
 
 // What a call answers; fields that don't apply are 0. The header's grimholdi_answer.
 #[repr(C)]
@@ -61,6 +67,32 @@ fn plain_answer(number: u8) -> Answer
         lowspeed: 0,
         toggle: 0,
     }
+}
+
+// A launch that gives nothing.
+fn unlaunched(answer: LaunchAnswer) -> Answer
+    ensures { λ r. ⌜ r ≡ plainSaid (launchNumber answer) ⌝ }
+{
+    plain_answer(numbers::launch_answer(answer))
+}
+
+fn delivered(answer: DeliverAnswer) -> Answer
+    ensures { λ r. ⌜ r ≡ plainSaid (deliverNumber answer) ⌝ }
+{
+    plain_answer(numbers::deliver_answer(answer))
+}
+
+// A complete-split that gives no result.
+fn uncompleted(answer: CompleteAnswer) -> Answer
+    ensures { λ r. ⌜ r ≡ plainSaid (completeNumber answer) ⌝ }
+{
+    plain_answer(numbers::complete_answer(answer))
+}
+
+fn started(choice: Choice) -> Answer
+    ensures { λ r. ⌜ r ≡ plainSaid (choiceNumber choice) ⌝ }
+{
+    plain_answer(numbers::start_answer(StartAnswer::Chosen(choice)))
 }
 
 // What a call of the hub answers, as C sees it.
@@ -124,7 +156,7 @@ fn launch_answer(split: StartSplit, payload: Payload) -> Answer
     let transfer = split.transfer;
     let lane = split.lane;
     Answer {
-        number: 1,
+        number: numbers::launch_answer(LaunchAnswer::Launches(split)),
         length: payload.size(),
         pid: numbers::pid_number(pid),
         transfer: numbers::type_number(transfer),
@@ -139,9 +171,9 @@ fn launch_answer(split: StartSplit, payload: Payload) -> Answer
 
 fn launch(area: &mut [u8], reply: &mut [u8]) -> Answer
     requires { ⌜ accepts (now area) ≡ true ⌝ }
-    ensures { λ r. ⌜ r ≡ entry (now (area .entry)) (Launch (length (now (reply .entry)))) (now (reply .entry)) .answer ⌝ }
-    ensures area { λ _. ⌜ now (area .exit) ≡ entry (now (area .entry)) (Launch (length (now (reply .entry)))) (now (reply .entry)) .area ⌝ }
-    ensures reply { λ _. ⌜ now (reply .exit) ≡ entry (now (area .entry)) (Launch (length (now (reply .entry)))) (now (reply .entry)) .reply ⌝ }
+    ensures { λ r. ⌜ r ≡ gives (now (area .entry)) (launch (now (reply .entry))) .answer ⌝ }
+    ensures area { λ _. ⌜ now (area .exit) ≡ gives (now (area .entry)) (launch (now (reply .entry))) .area ⌝ }
+    ensures reply { λ _. ⌜ now (reply .exit) ≡ gives (now (area .entry)) (launch (now (reply .entry))) .reply ⌝ }
 {
     let head = parts::head_at(area);
     let refusal = hub::first_refusal(true, 64 <= reply.len(), head.configured, true);
@@ -153,39 +185,39 @@ fn launch(area: &mut [u8], reply: &mut [u8]) -> Answer
         LowSide::Idle => {
             let slots = parts::slots_at(area, head.ports);
             match translator::earliest_of(slots, head.count) {
-                Earliest::NonePending => plain_answer(3),
+                Earliest::NonePending => unlaunched(LaunchAnswer::NothingPending),
                 Earliest::Stored(n, _) => {
                     let b = parts::buffer_at(area, head.ports, n);
                     let slot = b.slot;
                     let payload = b.payload;
                     match slot {
-                        Slot::Empty => plain_answer(3),
+                        Slot::Empty => unlaunched(LaunchAnswer::NothingPending),
                         Slot::Pending(split, _) => {
                             parts::write_low(LowSide::Running(n), area);
                             payload.give(reply);
                             launch_answer(split, payload)
                         }
-                        Slot::Ready(_, _) => plain_answer(3),
-                        Slot::Old(_, _) => plain_answer(3),
+                        Slot::Ready(_, _) => unlaunched(LaunchAnswer::NothingPending),
+                        Slot::Old(_, _) => unlaunched(LaunchAnswer::NothingPending),
                     }
                 }
             }
         }
-        LowSide::Running(_) => plain_answer(8),
-        LowSide::Abandoned => plain_answer(8),
+        LowSide::Running(_) => unlaunched(LaunchAnswer::Occupied),
+        LowSide::Abandoned => unlaunched(LaunchAnswer::Occupied),
     }
 }
 
 // The result in buffer n, which is ready then, and an idle low side.
 fn put_result(
-    ports: u8,
+    ports: PortCount,
     n: BufferNumber,
     split: StartSplit,
     result: DeviceResult,
     payload: &[u8],
     area: &mut [u8],
 )
-    ensures { λ _. ⌜ now (area .exit) ≡ bufferOver ports n (record { slot = Ready split result; payload = payloadOf (now (payload .entry)) }) (lowOver Idle (now (area .entry))) ⌝ }
+    ensures { λ _. ⌜ now (area .exit) ≡ bufferOver (ports .0) n (record { slot = Ready split result; payload = payloadOf (now (payload .entry)) }) (lowOver Idle (now (area .entry))) ⌝ }
 {
     parts::write_low(LowSide::Idle, area);
     let ready = Buffer {
@@ -197,8 +229,8 @@ fn put_result(
 
 fn deliver(area: &mut [u8], result: u32, payload: &[u8]) -> Answer
     requires { ⌜ accepts (now area) ≡ true ⌝ }
-    ensures { λ r. ⌜ r ≡ entry (now (area .entry)) (Deliver result (now (payload .entry))) [] .answer ⌝ }
-    ensures area { λ _. ⌜ now (area .exit) ≡ entry (now (area .entry)) (Deliver result (now (payload .entry))) [] .area ⌝ }
+    ensures { λ r. ⌜ r ≡ gives (now (area .entry)) (deliver result (now (payload .entry))) .answer ⌝ }
+    ensures area { λ _. ⌜ now (area .exit) ≡ gives (now (area .entry)) (deliver result (now (payload .entry))) .area ⌝ }
 {
     let kind = numbers::result_of(result);
     let within = logic::both(numbers::is_result(result), kind.carries(payload.len()));
@@ -209,26 +241,26 @@ fn deliver(area: &mut [u8], result: u32, payload: &[u8]) -> Answer
     }
     let low = head.low;
     match low {
-        LowSide::Idle => plain_answer(8),
+        LowSide::Idle => delivered(DeliverAnswer::NotInThisState),
         LowSide::Running(n) => {
             let slot = parts::slot_at(area, head.ports, n);
             match slot {
-                Slot::Empty => plain_answer(8),
+                Slot::Empty => delivered(DeliverAnswer::NotInThisState),
                 Slot::Pending(split, _) => {
                     let pid = split.pid;
                     if kind.suits(pid) {
                         put_result(head.ports, n, split, kind, payload, area);
-                        return plain_answer(0);
+                        return delivered(DeliverAnswer::Done);
                     }
-                    plain_answer(8)
+                    delivered(DeliverAnswer::NotInThisState)
                 }
-                Slot::Ready(_, _) => plain_answer(8),
-                Slot::Old(_, _) => plain_answer(8),
+                Slot::Ready(_, _) => delivered(DeliverAnswer::NotInThisState),
+                Slot::Old(_, _) => delivered(DeliverAnswer::NotInThisState),
             }
         }
         LowSide::Abandoned => {
             parts::write_low(LowSide::Idle, area);
-            plain_answer(0)
+            delivered(DeliverAnswer::Done)
         }
     }
 }
@@ -256,14 +288,14 @@ fn give_result(result: DeviceResult, payload: Payload, reply: &mut [u8]) -> Answ
 
 // The result in buffer n was given: the buffer is old.
 fn put_old(
-    ports: u8,
+    ports: PortCount,
     n: BufferNumber,
     split: StartSplit,
     result: DeviceResult,
     payload: Payload,
     area: &mut [u8],
 )
-    ensures { λ _. ⌜ now (area .exit) ≡ bufferOver ports n (record { slot = Old split result; payload = payload }) (now (area .entry)) ⌝ }
+    ensures { λ _. ⌜ now (area .exit) ≡ bufferOver (ports .0) n (record { slot = Old split result; payload = payload }) (now (area .entry)) ⌝ }
 {
     let old = Buffer {
         slot: Slot::Old(split, result),
@@ -281,9 +313,9 @@ fn complete_split(
     reply: &mut [u8],
 ) -> Answer
     requires { ⌜ accepts (now area) ≡ true ⌝ }
-    ensures { λ r. ⌜ r ≡ entry (now (area .entry)) (Complete lane address endpoint direction (length (now (reply .entry)))) (now (reply .entry)) .answer ⌝ }
-    ensures area { λ _. ⌜ now (area .exit) ≡ entry (now (area .entry)) (Complete lane address endpoint direction (length (now (reply .entry)))) (now (reply .entry)) .area ⌝ }
-    ensures reply { λ _. ⌜ now (reply .exit) ≡ entry (now (area .entry)) (Complete lane address endpoint direction (length (now (reply .entry)))) (now (reply .entry)) .reply ⌝ }
+    ensures { λ r. ⌜ r ≡ gives (now (area .entry)) (completeSplit lane address endpoint direction (now (reply .entry))) .answer ⌝ }
+    ensures area { λ _. ⌜ now (area .exit) ≡ gives (now (area .entry)) (completeSplit lane address endpoint direction (now (reply .entry))) .area ⌝ }
+    ensures reply { λ _. ⌜ now (reply .exit) ≡ gives (now (area .entry)) (completeSplit lane address endpoint direction (now (reply .entry))) .reply ⌝ }
 {
     let named = numbers::key_named(lane, address, endpoint, direction);
     let head = parts::head_at(area);
@@ -294,14 +326,14 @@ fn complete_split(
     let slots = parts::slots_at(area, head.ports);
     let key = numbers::key_of(lane, address, endpoint, direction);
     match translator::holder(slots, head.count, key) {
-        Found::Nowhere => plain_answer(2),
+        Found::Nowhere => uncompleted(CompleteAnswer::NoMatch),
         Found::At(n) => {
             let b = parts::buffer_at(area, head.ports, n);
             let slot = b.slot;
             let payload = b.payload;
             match slot {
-                Slot::Empty => plain_answer(2),
-                Slot::Pending(_, _) => plain_answer(4),
+                Slot::Empty => uncompleted(CompleteAnswer::NoMatch),
+                Slot::Pending(_, _) => uncompleted(CompleteAnswer::NotYet),
                 Slot::Ready(split, result) => {
                     put_old(head.ports, n, split, result, payload, area);
                     give_result(result, payload, reply)
@@ -324,8 +356,8 @@ fn start_split(
     payload: &[u8],
 ) -> Answer
     requires { ⌜ accepts (now area) ≡ true ⌝ }
-    ensures { λ r. ⌜ r ≡ entry (now (area .entry)) (Start lane pid transfer lowspeed toggle address endpoint (now (payload .entry))) [] .answer ⌝ }
-    ensures area { λ _. ⌜ now (area .exit) ≡ entry (now (area .entry)) (Start lane pid transfer lowspeed toggle address endpoint (now (payload .entry))) [] .area ⌝ }
+    ensures { λ r. ⌜ r ≡ gives (now (area .entry)) (startSplit lane pid transfer lowspeed toggle address endpoint (now (payload .entry))) .answer ⌝ }
+    ensures area { λ _. ⌜ now (area .exit) ≡ gives (now (area .entry)) (startSplit lane pid transfer lowspeed toggle address endpoint (now (payload .entry))) .area ⌝ }
 {
     let split = numbers::split_of(lane, pid, transfer, lowspeed, toggle, address, endpoint);
     let named = numbers::split_named(lane, pid, transfer, lowspeed, toggle, address, endpoint);
@@ -337,16 +369,16 @@ fn start_split(
     }
     let slots = parts::slots_at(area, head.ports);
     match translator::choose(slots, head.count, split.key()) {
-        Choice::NoRoom => plain_answer(3),
-        Choice::LimitReached => plain_answer(3),
-        Choice::Held(_) => plain_answer(0),
+        Choice::NoRoom => started(Choice::NoRoom),
+        Choice::LimitReached => started(Choice::LimitReached),
+        Choice::Held(n) => started(Choice::Held(n)),
         Choice::Reused(n) => {
             parts::store(slots, head.ports, n, split, payload, area);
-            plain_answer(0)
+            started(Choice::Reused(n))
         }
         Choice::Took(n) => {
             parts::store(slots, head.ports, n, split, payload, area);
-            plain_answer(0)
+            started(Choice::Took(n))
         }
     }
 }
@@ -393,9 +425,9 @@ pub extern "C" fn grimholdi_control(
     setup: &[u8],
     reply: &mut [u8],
 ) -> Answer
-    ensures { λ r. ⌜ r ≡ entry (now (area .entry)) (Control lane (now (setup .entry)) (length (now (reply .entry)))) (now (reply .entry)) .answer ⌝ }
-    ensures area { λ _. ⌜ now (area .exit) ≡ entry (now (area .entry)) (Control lane (now (setup .entry)) (length (now (reply .entry)))) (now (reply .entry)) .area ⌝ }
-    ensures reply { λ _. ⌜ now (reply .exit) ≡ entry (now (area .entry)) (Control lane (now (setup .entry)) (length (now (reply .entry)))) (now (reply .entry)) .reply ⌝ }
+    ensures { λ r. ⌜ r ≡ gives (now (area .entry)) (control lane (now (setup .entry)) (now (reply .entry))) .answer ⌝ }
+    ensures area { λ _. ⌜ now (area .exit) ≡ gives (now (area .entry)) (control lane (now (setup .entry)) (now (reply .entry))) .area ⌝ }
+    ensures reply { λ _. ⌜ now (reply .exit) ≡ gives (now (area .entry)) (control lane (now (setup .entry)) (now (reply .entry))) .reply ⌝ }
 {
     let read = area::read_area(area);
     if read.ok {
@@ -408,9 +440,9 @@ pub extern "C" fn grimholdi_control(
 // A poll changes no hub, so nothing is written to the area.
 #[no_mangle]
 pub extern "C" fn grimholdi_poll(area: &mut [u8], lane: u32, reply: &mut [u8]) -> Answer
-    ensures { λ r. ⌜ r ≡ entry (now (area .entry)) (Poll lane (length (now (reply .entry)))) (now (reply .entry)) .answer ⌝ }
-    ensures area { λ _. ⌜ now (area .exit) ≡ entry (now (area .entry)) (Poll lane (length (now (reply .entry)))) (now (reply .entry)) .area ⌝ }
-    ensures reply { λ _. ⌜ now (reply .exit) ≡ entry (now (area .entry)) (Poll lane (length (now (reply .entry)))) (now (reply .entry)) .reply ⌝ }
+    ensures { λ r. ⌜ r ≡ gives (now (area .entry)) (poll lane (now (reply .entry))) .answer ⌝ }
+    ensures area { λ _. ⌜ now (area .exit) ≡ gives (now (area .entry)) (poll lane (now (reply .entry))) .area ⌝ }
+    ensures reply { λ _. ⌜ now (reply .exit) ≡ gives (now (area .entry)) (poll lane (now (reply .entry))) .reply ⌝ }
 {
     let read = area::read_area(area);
     if read.ok {
@@ -432,8 +464,8 @@ pub extern "C" fn grimholdi_start_split(
     endpoint: u32,
     payload: &[u8],
 ) -> Answer
-    ensures { λ r. ⌜ r ≡ entry (now (area .entry)) (Start lane pid transfer lowspeed toggle address endpoint (now (payload .entry))) [] .answer ⌝ }
-    ensures area { λ _. ⌜ now (area .exit) ≡ entry (now (area .entry)) (Start lane pid transfer lowspeed toggle address endpoint (now (payload .entry))) [] .area ⌝ }
+    ensures { λ r. ⌜ r ≡ gives (now (area .entry)) (startSplit lane pid transfer lowspeed toggle address endpoint (now (payload .entry))) .answer ⌝ }
+    ensures area { λ _. ⌜ now (area .exit) ≡ gives (now (area .entry)) (startSplit lane pid transfer lowspeed toggle address endpoint (now (payload .entry))) .area ⌝ }
 {
     if taken::is_taken(area) {
         return start_split(
@@ -460,9 +492,9 @@ pub extern "C" fn grimholdi_complete_split(
     direction: u32,
     reply: &mut [u8],
 ) -> Answer
-    ensures { λ r. ⌜ r ≡ entry (now (area .entry)) (Complete lane address endpoint direction (length (now (reply .entry)))) (now (reply .entry)) .answer ⌝ }
-    ensures area { λ _. ⌜ now (area .exit) ≡ entry (now (area .entry)) (Complete lane address endpoint direction (length (now (reply .entry)))) (now (reply .entry)) .area ⌝ }
-    ensures reply { λ _. ⌜ now (reply .exit) ≡ entry (now (area .entry)) (Complete lane address endpoint direction (length (now (reply .entry)))) (now (reply .entry)) .reply ⌝ }
+    ensures { λ r. ⌜ r ≡ gives (now (area .entry)) (completeSplit lane address endpoint direction (now (reply .entry))) .answer ⌝ }
+    ensures area { λ _. ⌜ now (area .exit) ≡ gives (now (area .entry)) (completeSplit lane address endpoint direction (now (reply .entry))) .area ⌝ }
+    ensures reply { λ _. ⌜ now (reply .exit) ≡ gives (now (area .entry)) (completeSplit lane address endpoint direction (now (reply .entry))) .reply ⌝ }
 {
     if taken::is_taken(area) {
         return complete_split(area, lane, address, endpoint, direction, reply);
@@ -472,9 +504,9 @@ pub extern "C" fn grimholdi_complete_split(
 
 #[no_mangle]
 pub extern "C" fn grimholdi_launch(area: &mut [u8], reply: &mut [u8]) -> Answer
-    ensures { λ r. ⌜ r ≡ entry (now (area .entry)) (Launch (length (now (reply .entry)))) (now (reply .entry)) .answer ⌝ }
-    ensures area { λ _. ⌜ now (area .exit) ≡ entry (now (area .entry)) (Launch (length (now (reply .entry)))) (now (reply .entry)) .area ⌝ }
-    ensures reply { λ _. ⌜ now (reply .exit) ≡ entry (now (area .entry)) (Launch (length (now (reply .entry)))) (now (reply .entry)) .reply ⌝ }
+    ensures { λ r. ⌜ r ≡ gives (now (area .entry)) (launch (now (reply .entry))) .answer ⌝ }
+    ensures area { λ _. ⌜ now (area .exit) ≡ gives (now (area .entry)) (launch (now (reply .entry))) .area ⌝ }
+    ensures reply { λ _. ⌜ now (reply .exit) ≡ gives (now (area .entry)) (launch (now (reply .entry))) .reply ⌝ }
 {
     if taken::is_taken(area) {
         return launch(area, reply);
@@ -484,8 +516,8 @@ pub extern "C" fn grimholdi_launch(area: &mut [u8], reply: &mut [u8]) -> Answer
 
 #[no_mangle]
 pub extern "C" fn grimholdi_deliver(area: &mut [u8], result: u32, payload: &[u8]) -> Answer
-    ensures { λ r. ⌜ r ≡ entry (now (area .entry)) (Deliver result (now (payload .entry))) [] .answer ⌝ }
-    ensures area { λ _. ⌜ now (area .exit) ≡ entry (now (area .entry)) (Deliver result (now (payload .entry))) [] .area ⌝ }
+    ensures { λ r. ⌜ r ≡ gives (now (area .entry)) (deliver result (now (payload .entry))) .answer ⌝ }
+    ensures area { λ _. ⌜ now (area .exit) ≡ gives (now (area .entry)) (deliver result (now (payload .entry))) .area ⌝ }
 {
     if taken::is_taken(area) {
         return deliver(area, result, payload);
@@ -495,8 +527,8 @@ pub extern "C" fn grimholdi_deliver(area: &mut [u8], result: u32, payload: &[u8]
 
 #[no_mangle]
 pub extern "C" fn grimholdi_line_event(area: &mut [u8], event: u32, port: u32) -> Answer
-    ensures { λ r. ⌜ r ≡ entry (now (area .entry)) (Event event port) [] .answer ⌝ }
-    ensures area { λ _. ⌜ now (area .exit) ≡ entry (now (area .entry)) (Event event port) [] .area ⌝ }
+    ensures { λ r. ⌜ r ≡ gives (now (area .entry)) (lineEvent event port) .answer ⌝ }
+    ensures area { λ _. ⌜ now (area .exit) ≡ gives (now (area .entry)) (lineEvent event port) .area ⌝ }
 {
     let read = area::read_area(area);
     if read.ok {
@@ -508,8 +540,8 @@ pub extern "C" fn grimholdi_line_event(area: &mut [u8], event: u32, port: u32) -
 
 #[no_mangle]
 pub extern "C" fn grimholdi_tick(area: &mut [u8]) -> Answer
-    ensures { λ r. ⌜ r ≡ entry (now (area .entry)) Tick [] .answer ⌝ }
-    ensures area { λ _. ⌜ now (area .exit) ≡ entry (now (area .entry)) Tick [] .area ⌝ }
+    ensures { λ r. ⌜ r ≡ gives (now (area .entry)) tick .answer ⌝ }
+    ensures area { λ _. ⌜ now (area .exit) ≡ gives (now (area .entry)) tick .area ⌝ }
 {
     let read = area::read_area(area);
     if read.ok {
@@ -521,8 +553,8 @@ pub extern "C" fn grimholdi_tick(area: &mut [u8]) -> Answer
 
 #[no_mangle]
 pub extern "C" fn grimholdi_bus_reset(area: &mut [u8]) -> Answer
-    ensures { λ r. ⌜ r ≡ entry (now (area .entry)) BusReset [] .answer ⌝ }
-    ensures area { λ _. ⌜ now (area .exit) ≡ entry (now (area .entry)) BusReset [] .area ⌝ }
+    ensures { λ r. ⌜ r ≡ gives (now (area .entry)) busReset .answer ⌝ }
+    ensures area { λ _. ⌜ now (area .exit) ≡ gives (now (area .entry)) busReset .area ⌝ }
 {
     let read = area::read_area(area);
     if read.ok {
@@ -535,4 +567,14 @@ pub extern "C" fn grimholdi_bus_reset(area: &mut [u8]) -> Answer
 // What holds of every entry and of every run of entries.
 fn entry_claims()
     ensures { λ _. ⌜ EntryClaims ⌝ }
+{}
+
+// Entries with one mistake break the claims.
+fn entry_mistakes_shut_out()
+    ensures { λ _. ⌜ EntryMistakesShutOut ⌝ }
+{}
+
+// Areas that no new hub comes to.
+fn entry_cases()
+    ensures { λ _. ⌜ EntryCases ⌝ }
 {}

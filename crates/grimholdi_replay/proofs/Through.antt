@@ -28,7 +28,8 @@ use Rattle.replay.specs.Code.{answersLength, isRoomy}
 use Rattle.replay.specs.Replay.{Recording, Stop, Replayed, Played, andThen, replayFrom, seenAs, ReplayExact, playedCalls, playedNone, blockPlayed, byValue}
 use Rattle.replay.specs.Replay.{blocksOf, AllWritable, joined}
 use Rattle.replay.proofs.Replays.{sums, replay-claims}
-use Rattle.grimholdi.specs.Runs.{Asked, callOf, NewArea}
+use Rattle.grimholdi.specs.Asked.{Asked, callOf}
+use Rattle.grimholdi.specs.Runs.{NewArea}
 use Rattle.grimholdi.proofs.Carried.{new-hub, filled-is}
 use Rattle.grimholdi.proofs.Claimed.{entry-claims}
 use Rattle.grimholdi_replay.specs.Entry.{refusalNumber, Gave, refused, gaveBy, blockEntry}

@@ -22,7 +22,9 @@ use Rattle.recording.specs.Refusals.{Told}
 use Rattle.replay.specs.Answers.{answersIn}
 use Rattle.replay.specs.Code.{answersLength}
 use Rattle.replay.specs.Replay.{Player, replayFrom, ReplayExact, ReplayAddsUp, playedCalls, playedNone, blocksOf, AllWritable, joined}
-use Rattle.grimholdi.specs.Runs.{Asked, callOf, NewArea, filled, entries}
+use Rattle.grimholdi.specs.Asked.{Asked, callOf}
+use Rattle.grimholdi.specs.Runs.{NewArea, filled, entries}
+use Rattle.grimholdi.specs.Refusals.{Unwritten}
 use Rattle.grimholdi_replay.specs.Entry.{refused, gaveBy, blockEntry}
 
 -- the verdict that a refusal's number stands for
@@ -63,7 +65,7 @@ pub record SessionReplays (memory : ℕ → List ℕ) (m : NewArea) (xs : List A
 
 pub record EntryReplays : Type 0 where
   -- an area that is the written form of no valid hub answers 6, and nothing changes
-  pub bad-area : (a : List ℕ) (p : ℕ) (b o : List ℕ) → ((h : Hub) → ValidHub h → ¬ (a ≡ written h)) → blockEntry a p b o ≡ refused 6 a o
+  pub bad-area : (a : List ℕ) (p : ℕ) (b o : List ℕ) → Unwritten a → blockEntry a p b o ≡ refused 6 a o
   -- on any other, too little space answers 7, and nothing changes
   pub no-space : (h : Hub) (p : ℕ) (b o : List ℕ) → ValidHub h → length o < answersLength
       → blockEntry (written h) p b o ≡ refused 7 (written h) o

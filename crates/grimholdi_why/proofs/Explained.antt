@@ -27,7 +27,8 @@ use Rattle.area.specs.declared.Read.{Read}
 use Rattle.area.specs.Read.{readOf}
 use Rattle.area.proofs.Exact.{area-exact}
 use Rattle.grimholdi.specs.Entry.{Gave}
-use Rattle.grimholdi.specs.Runs.{Asked, callOf, gives, seen}
+use Rattle.grimholdi.specs.Asked.{Asked, callOf, gives}
+use Rattle.grimholdi.specs.Runs.{seen}
 use Rattle.grimholdi_why.specs.Explained.{entryReason, explains, explainedEntries, EntryReasons}
 use Rattle.grimholdi.proofs.Carried.{gives-taken, answer-same, next-same, new-hub, filled-is}
 use Rattle.grimholdi.proofs.Claimed.{entry-claims}
@@ -54,15 +55,15 @@ module _ (h : Hub) (v : ValidHub h) where
   unfolding entryReason
   reason-same c = rw (area-exact .again h v)
 
-  true-of : (x : Asked) → TrueOf (explains (written h) x) h (callOf x)
-  true-of x = subst (λ (r : Reason). TrueOf r h (callOf x)) (sym (reason-same (callOf x))) (why-claims .true-of h (callOf x) v)
+  true-of : (c : Call) → TrueOf (entryReason (written h) c) h c
+  true-of c = subst (λ (r : Reason). TrueOf r h c) (sym (reason-same c)) (why-claims .true-of h c v)
 
   -- a number is enough for nothing
   no-number : {r : Reason} {n : ℕ} {a : Answer} → r ≡ Number n → enoughFor r ≡ some a → ⊥
   no-number {n = n} {a = a} p e = let w : enoughFor (Number n) ≡ some a = ap enoughFor (sym p) ∙ e in let z : _≡_ {A = ℕ} 0 1 = cc in omega arith
 
   answered : (x : Asked) (a : Answer) → enoughFor (explains (written h) x) ≡ some a → seen (gives (written h) x) ≡ a
-  answered x a e = answer-same h v x ∙ go (true-of x)
+  answered x a e = answer-same h v x ∙ go (true-of (callOf x))
     where
       go : TrueOf (explains (written h) x) h (callOf x) → step h (callOf x) .answer ≡ a
       go (number q l d p) = absurd (no-number p e)
@@ -94,8 +95,8 @@ demand-2 m is = ap (λ (a : List ℕ). seenFrom explainedEntries a is) (filled-i
 pub entry-reasons : EntryReasons
 entry-reasons =
     record {
-      bad-area = λ a x n. reason-refused a (callOf x) (area-exact .refused a .1 n);
-      true-of = λ h x v. true-of h v x;
+      bad-area = λ a c n. reason-refused a c (area-exact .refused a .1 n);
+      true-of = λ h c v. true-of h v c;
       answered = λ h x a v. answered h v x a;
       given = λ h x v. given h v x;
       demand-2 = demand-2;

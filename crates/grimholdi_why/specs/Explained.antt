@@ -16,7 +16,9 @@ use Rattle.why.specs.Why.{whyOf}
 use Rattle.why.specs.ExplainedRuns.{Explainer, Demand2WithReasons, Demand3WithReasons}
 use Rattle.area.specs.Written.{written}
 use Rattle.area.specs.Read.{readOf}
-use Rattle.grimholdi.specs.Runs.{Asked, callOf, gives, seen, entries}
+use Rattle.grimholdi.specs.Asked.{Asked, callOf, gives}
+use Rattle.grimholdi.specs.Runs.{seen, entries}
+use Rattle.grimholdi.specs.Refusals.{Unwritten}
 
 -- the reason for the call c on the area a
 unfoldable pub entryReason : List ℕ → Call → Reason
@@ -32,9 +34,9 @@ explainedEntries = record { machine = entries; why = explains; left = λ a x. a 
 
 pub record EntryReasons : Type 0 where
   -- an area that is the written form of no valid hub: 6
-  pub bad-area : (a : List ℕ) (x : Asked) → ((h : Hub) → ValidHub h → ¬ (a ≡ written h)) → explains a x ≡ Number 6
+  pub bad-area : (a : List ℕ) (c : Call) → Unwritten a → entryReason a c ≡ Number 6
   -- on any other, the reason is true of that hub and call, ..
-  pub true-of : (h : Hub) (x : Asked) → ValidHub h → TrueOf (explains (written h) x) h (callOf x)
+  pub true-of : (h : Hub) (c : Call) → ValidHub h → TrueOf (entryReason (written h) c) h c
   -- .. what it is enough for is what the call's own entry answers, bytes included, ..
   pub answered : (h : Hub) (x : Asked) (a : Answer) → ValidHub h → enoughFor (explains (written h) x) ≡ some a → seen (gives (written h) x) ≡ a
   -- .. and it is given exactly where that answer gets one

@@ -1,12 +1,12 @@
 -- Only data has bytes, at most 64 of them. Assumes nothing.
-use Prim.Native.Nat.{ℕ, _≤_}
+use Prim.Native.Nat.{_≤_}
 use mathlib.Core.Path.{_≡_, refl}
 use mathlib.Core.Bool.{Bool, true, false, cond, _&&_, _||_, true≢false}
 use mathlib.Core.List.{[], _∷_}
 use native.Mathlib.Omega.{arith}
 use lib.Dec.{eqb}
 use lib.ListN.{length, take, length-take}
-use borrow.Author.Tests.{ne-eqb, eqb-true}
+use borrow.Author.Tests.{ne-eqb}
 use Rattle.payload.specs.declared.Payload.{Payload}
 use Rattle.payload.specs.Payload.{content, noPayload}
 use Rattle.ports.specs.Bitmap.{bitmapOf}
@@ -16,8 +16,8 @@ use Rattle.buffer.specs.declared.Slot.the-variants.{Empty, Pending, Ready, Old}
 use Rattle.buffer.specs.declared.Buffer.{Buffer}
 use Rattle.buffer.specs.declared.BufferNumber.{BufferNumber}
 use Rattle.buffer.specs.Buffer.{holds}
-use Rattle.buffer.specs.Lengths.{resultLength, suits, isData, numbersFit}
-use Rattle.buffer.specs.Valid.{slotFits, Whole}
+use Rattle.buffer.specs.Lengths.{isData}
+use Rattle.buffer.specs.Valid.{Whole}
 use Rattle.translator.specs.declared.LowSide.{LowSide}
 use Rattle.translator.specs.declared.LowSide.the-variants.{Idle, Running, Abandoned}
 use Rattle.buffer.specs.declared.Lane.{Lane}
@@ -34,7 +34,7 @@ use Rattle.translator.specs.Order.{earliest}
 use Rattle.translator.specs.CompleteSplit.{completed, completeAt, completeSplit}
 use Rattle.translator.specs.Launch.{launched, launchAt, launchBy, launch}
 use Rattle.translator.specs.Valid.{ValidTranslator}
-use Rattle.translator.proofs.Kept.{start-le, result-le}
+use Rattle.translator.proofs.Kept.{slot-le}
 use Rattle.request.specs.declared.Request.{Request}
 use Rattle.request.specs.declared.Request.the-variants.{Wrong, SetConfiguration, GetConfiguration, GetHubDescriptor, GetHubStatus, GetPortStatus, ClearHubFeature, ClearPortFeature, SetPortFeature, ClearTTBuffer, ResetTT}
 use Rattle.request.specs.Request.{requestOf}
@@ -48,7 +48,6 @@ use Rattle.hub.specs.Rules.{polled, completedAs, launchedBy, launchedAs}
 use Rattle.hub.specs.Step.{served, step}
 use Rattle.hub.specs.Valid.{ValidHub}
 use Rattle.hub.proofs.Order.{by-step}
-use Rattle.hub.proofs.Numbers.{right}
 
 -- ---- answers other than data have no bytes
 
@@ -129,12 +128,6 @@ module _ (h : Hub) where
 
 abbrev Fit : Outcome → Type 0
 Fit o = length (o .answer .bytes) ≤ 64
-
-slot-le : (s : Slot) (n : ℕ) → slotFits s n ≡ true → n ≤ 64
-slot-le Empty n e = omega (arith, eqb-true n 0 e)
-slot-le (Pending s p) n e = start-le s n e
-slot-le (Ready s r) n e = result-le r n (right (suits (s .pid) r) (resultLength r n) (right (numbersFit s) (suits (s .pid) r && resultLength r n) e))
-slot-le (Old s r) n e = result-le r n (right (suits (s .pid) r) (resultLength r n) (right (numbersFit s) (suits (s .pid) r && resultLength r n) e))
 
 buffer-fits : (b : Buffer) → Whole b → length (content (b .payload)) ≤ 64
 buffer-fits b w = let l : b .payload .len ≤ 64 = slot-le (b .slot) (b .payload .len) (w .fits) in simp length-take (omega arith)

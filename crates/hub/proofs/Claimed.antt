@@ -1,5 +1,6 @@
 -- The claims of specs/Claims.antt. Assumes nothing.
 use Rattle.hub.specs.Claims.{HubClaims}
+use Rattle.hub.proofs.NewNumbers.{new-refused}
 use Rattle.hub.proofs.Valid.{new-valid, step-valid}
 use Rattle.hub.proofs.Refused.{refused-same}
 use Rattle.hub.proofs.MadeFrom.{numbers-kept}
@@ -9,6 +10,7 @@ use Rattle.hub.proofs.Bytes.{bytes-of-data, bytes-fit}
 pub hub-claims : HubClaims
 hub-claims =
     record {
+      new-refused = new-refused;
       new-valid = new-valid;
       step-valid = step-valid;
       refused-same = refused-same;

@@ -1,5 +1,7 @@
 pub mod Order
 pub mod Numbers
+pub mod Tells
+pub mod NewNumbers
 pub mod Ways
 pub mod Ports
 pub mod Valid

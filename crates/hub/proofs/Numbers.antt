@@ -15,7 +15,7 @@ left a b e = and-eq-true-iff a b .0 e .0
 pub right : (a b : Bool) → (a && b) ≡ true → b ≡ true
 right a b e = and-eq-true-iff a b .0 e .1
 
-below-256 : (n r : ℕ) → n ≤ 7 → r < 2 ^ (n + 1) → r < 256
+pub below-256 : (n r : ℕ) → n ≤ 7 → r < 2 ^ (n + 1) → r < 256
 below-256 n r h l = omega (arith, l, pow-le-pow-right {n = 2} (omega arith) {i = n + 1} {j = 8} (omega arith))
 
 -- what is none of the first numbers is past them

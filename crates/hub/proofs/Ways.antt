@@ -1,9 +1,10 @@
 -- How the code of the calls and requests is put together: what the functions that it calls gave makes what the rule says.
 -- Assumes nothing.
 use Prim.Native.Nat.{ℕ, _≤_, min}
-use mathlib.Core.Path.{_≡_, refl, ap, ap₂, _∙_}
+use mathlib.Core.Path.{_≡_, refl, sym, ap, ap₂, _∙_}
 use mathlib.Core.Bool.{Bool, true, false, cond, not, _&&_, _||_}
 use mathlib.Core.List.{List, [], _∷_}
+use mathlib.Core.Logic.{⊎-elim}
 use native.Mathlib.Omega.{arith}
 use borrow.Author.Tests.{ne-eqb}
 use lib.Dec.{eqb}
@@ -12,11 +13,13 @@ use Rattle.payload.specs.declared.Payload.{Payload}
 use Rattle.payload.specs.Payload.{padded, payloadOf, content}
 use Rattle.payload.proofs.Laws.{content-of, take-min}
 use Rattle.port.specs.declared.Port.{Port}
+use Rattle.port.specs.declared.PortNumber.{PortNumber}
 use Rattle.port.specs.declared.LineEvent.{LineEvent}
-use Rattle.port.specs.declared.Stepped.{Stepped}
-use Rattle.port.specs.Reaction.{Answered, numberOf, answered}
+use Rattle.port.specs.Reaction.{Answered}
 use Rattle.port.specs.Events.{lineEvent}
+use Rattle.port.proofs.Claimed.{port-claims}
 use Rattle.ports.specs.Ports.{portAt}
+use Rattle.ports.proofs.Laws.{put-back}
 use Rattle.ports.specs.Bitmap.{bitmapOf}
 use Rattle.buffer.specs.declared.Lane.{Lane}
 use Rattle.buffer.specs.declared.DeviceResult.{DeviceResult}
@@ -30,10 +33,12 @@ use Rattle.request.specs.declared.Request.{Request}
 use Rattle.request.specs.Request.{requestOf}
 use Rattle.numbers.specs.Named.{eventFrom, laneFrom}
 use Rattle.hub.specs.declared.Hub.{Hub}
-use Rattle.hub.specs.Hub.{withPortAt}
-use Rattle.hub.specs.Call.{Outcome, plain, refuse, gives}
+use Rattle.hub.specs.Hub.{withPorts, withPortAt}
+use Rattle.hub.specs.Call.{Event, Outcome, plain, refuse, gives}
 use Rattle.hub.specs.Requests.{descriptor, byRequest, servedAlways, requested}
-use Rattle.hub.specs.Rules.{polled, eventAt}
+use Rattle.hub.specs.Rules.{polled, steppedAt, eventAt}
+use Rattle.hub.specs.Step.{within, roomy, heard, fitting, served, unless, firstRefusal, step}
+use Rattle.hub.proofs.Order.{refused-by}
 
 -- a poll leaves the hub as it was
 pub polled-stays : (h : Hub) → polled h .next ≡ h
@@ -87,14 +92,49 @@ pub deliver-fits : (t : Translator) (r : DeviceResult) (l : List ℕ) {x : Deliv
     → not (eqb n 8) ≡ not (eqb (deliverNumber (deliver t r l .answer)) 8)
 deliver-fits t r l e f g = rw (e, f, g)
 
-module _ (h : Hub) (e n : ℕ) {k : ℕ} (x : Stepped) {p : Port} {v : LineEvent} (number : k ≡ numberOf (x .answer)) (made : answered x ≡ lineEvent p v)
-    (port : p ≡ portAt (h .ports) (record { 0 = n })) (event : v ≡ eventFrom e) where
-  event-number : k ≡ lineEvent (portAt (h .ports) (record { 0 = n })) (eventFrom e) .number
-  event-number = number ∙ ap (λ (a : Answered). a .number) made ∙ rw (port, event)
+-- ---- a line event: its numbers and the hub's configuration are looked at before the port, and the port's own answer is the last check
 
-  pub event-fits : {b : Bool} → b ≡ (h .configured && not (eqb k 8))
-      → b ≡ (h .configured && not (eqb (lineEvent (portAt (h .ports) (record { 0 = n })) (eventFrom e) .number) 8))
-  event-fits b = b ∙ ap (λ (i : ℕ). h .configured && not (eqb i 8)) event-number
+refuses-still : (w f x : Bool) → ¬ (firstRefusal w true true f ≡ 0) → firstRefusal w true true f ≡ firstRefusal w true true (f && x)
+refuses-still true true x d = absurd (d refl)
+refuses-still true false x d = refl
+refuses-still false f x d = refl
 
-  pub event-done : {o : Outcome} {g : Hub} → o ≡ plain g k → g ≡ withPortAt h (record { 0 = n }) (x .port) → o ≡ eventAt h (eventFrom e) (record { 0 = n })
-  event-done o g = o ∙ rw (g, ap (λ (a : Answered). a .port) made, event-number, port, event)
+port-decides : (w f x : Bool) → firstRefusal w true true f ≡ 0 → firstRefusal w true true (f && x) ≡ unless x 8 0
+port-decides true true x e = refl
+port-decides true false x e = absurd (omega (arith, e))
+port-decides false f x e = absurd (omega (arith, e))
+
+-- a port that answers 8 is put back as it stood
+last-check : (h : Hub) (e : LineEvent) (m : PortNumber)
+    → (let k = unless (not (eqb (lineEvent (portAt (h .ports) m) e .number) 8)) 8 0 in cond {A = Outcome} (eqb k 0) (eventAt h e m) (refuse k h)) ≡ eventAt h e m
+last-check h e m =
+    let p = portAt (h .ports) m in
+    let o = lineEvent p e in
+    let F : ℕ → Outcome = λ (i : ℕ). let k = unless (not (eqb i 8)) 8 0 in cond {A = Outcome} (eqb k 0) (eventAt h e m) (refuse k h) in
+    ⊎-elim (λ (z : o .number ≡ 0). ap F z)
+    (λ (z : o .number ≡ 8).
+    ap F z
+    ∙ sym
+    (ap₂ (λ (q : Port) (i : ℕ). plain (withPortAt h m q) i) (port-claims .refused-unchanged p e z) z
+    ∙ ap (λ (ps : List Port). plain (withPorts h ps) 8) (put-back (h .ports) m)))
+    (port-claims .event-answers p e)
+
+module _ (h : Hub) (e n : ℕ) {o : Outcome} where
+  pub event-at : {x : Answered} {p : Port} {v : LineEvent} → o ≡ steppedAt h (record { 0 = n }) x → x ≡ lineEvent p v
+      → p ≡ portAt (h .ports) (record { 0 = n }) → v ≡ eventFrom e → o ≡ eventAt h (eventFrom e) (record { 0 = n })
+  event-at s made port event = s ∙ ap (steppedAt h (record { 0 = n })) (made ∙ ap₂ lineEvent port event)
+
+  module _ {m : ℕ} {w : Bool} where
+    pub event-refused : o ≡ plain h m → m ≡ firstRefusal w true true (h .configured) → w ≡ within h (Event e n) → ¬ (m ≡ 0) → o ≡ step h (Event e n)
+    unfolding roomy heard fitting
+    event-refused a g i z = refused-by h (Event e n) a (g ∙ refuses-still w (h .configured) _ (λ y. z (g ∙ y))) i refl refl refl z
+
+    pub event-stepped : m ≡ firstRefusal w true true (h .configured) → w ≡ within h (Event e n) → m ≡ 0 → o ≡ eventAt h (eventFrom e) (record { 0 = n })
+        → o ≡ step h (Event e n)
+    unfolding step roomy heard fitting served
+    event-stepped g i z a =
+        a
+        ∙ sym
+        (ap (λ (k : ℕ). cond {A = Outcome} (eqb k 0) (eventAt h (eventFrom e) (record { 0 = n })) (refuse k h))
+        (port-decides (within h (Event e n)) (h .configured) _ (ap (λ (b : Bool). firstRefusal b true true (h .configured)) (sym i) ∙ sym g ∙ z))
+        ∙ last-check h (eventFrom e) (record { 0 = n }))

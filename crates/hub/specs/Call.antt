@@ -94,6 +94,14 @@ done h = plain h 0
 abbrev pub refuse : ℕ → Hub → Outcome
 refuse n h = plain h n
 
+-- 2 STALL: nothing changed
+abbrev pub stall : Hub → Outcome
+stall h = refuse 2 h
+
+-- 3 nothing to give: nothing changed
+abbrev pub givesNothing : Hub → Outcome
+givesNothing h = refuse 3 h
+
 -- 1 data, n bytes
 abbrev pub gives : Hub → List ℕ → Outcome
 gives h l = record { next = h; answer = pidAnswer 1 0 l }

@@ -52,7 +52,7 @@ configurationSweep true = sweep.Configure
 configurationSweep false = sweep.Unconfigure
 
 -- SetConfiguration 0 puts every port in Not Configured, 1 in Powered-off, whatever was set before; both keep change bits and empty the
--- translator.
+-- translator. Value 0 also drops over-current levels without a change bit; the front end reports them again.
 unfoldable pub configuredAs : Bool → Hub → Hub
 configuredAs on h =
     record {

@@ -20,7 +20,7 @@ use Rattle.request.specs.declared.Request.the-variants.{Wrong, SetConfiguration
 use Rattle.hub.specs.declared.Identity.{Identity}
 use Rattle.hub.specs.declared.Hub.{Hub}
 use Rattle.hub.specs.Hub.{withPortAt, withTranslator, configuredAs}
-use Rattle.hub.specs.Call.{Outcome, done, refuse, gives}
+use Rattle.hub.specs.Call.{Outcome, done, stall, gives}
 
 -- Descriptor, 9 bytes: 09, 29, N, 09, 00, power-good, current, removable, FF.
 abbrev pub descriptor : Identity → List ℕ
@@ -38,7 +38,7 @@ keyed z p = keyWith z (p .address) (p .endpoint) (p .direction)
 
 -- a request from the lane z
 abbrev pub byRequest : Hub → Lane → Request → Outcome
-byRequest h z (Wrong f) = refuse 2 h
+byRequest h z (Wrong f) = stall h
 byRequest h z (SetConfiguration on) = done (configuredAs on h)
 byRequest h z GetConfiguration = gives h (bit (h .configured) ∷ [])
 -- cut to wLength
@@ -70,4 +70,4 @@ servedAlways ResetTT = false
 
 -- Anything else is 2. Unconfigured, only the first three are served; others are 2.
 unfoldable pub requested : Hub → Lane → Request → Outcome
-requested h z r = cond (h .configured || servedAlways r) (byRequest h z r) (refuse 2 h)
+requested h z r = cond (h .configured || servedAlways r) (byRequest h z r) (stall h)

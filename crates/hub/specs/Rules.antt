@@ -8,6 +8,7 @@ use Rattle.payload.specs.declared.Payload.{Payload}
 use Rattle.payload.specs.Payload.{content}
 use Rattle.port.specs.declared.PortNumber.{PortNumber}
 use Rattle.port.specs.declared.LineEvent.{LineEvent}
+use Rattle.port.specs.Reaction.{Answered}
 use Rattle.port.specs.Status.{bit}
 use Rattle.port.specs.Events.{lineEvent}
 use Rattle.ports.specs.Ports.{portAt}
@@ -22,26 +23,26 @@ use Rattle.translator.specs.declared.Launched.{Launched}
 use Rattle.translator.specs.declared.LaunchAnswer.{LaunchAnswer}
 use Rattle.translator.specs.declared.LaunchAnswer.the-variants.{NothingPending, Occupied, Launches}
 use Rattle.translator.specs.declared.Delivered.{Delivered}
-use Rattle.translator.specs.Answers.{startNumber, resultNumber, resultPid, laneNumber, pidNumber, deliverNumber}
+use Rattle.translator.specs.Answers.{startNumber, completeNumber, launchNumber, deliverNumber, resultPid, laneNumber, pidNumber}
 use Rattle.numbers.specs.Written.{typeNumber, directionNumber}
 use Rattle.hub.specs.declared.Hub.{Hub}
 use Rattle.hub.specs.Hub.{withPortAt, withTranslator}
-use Rattle.hub.specs.Call.{Answer, Outcome, plain, refuse, pidAnswer, gives}
+use Rattle.hub.specs.Call.{Answer, Outcome, plain, pidAnswer, gives, givesNothing}
 
 -- Poll: answer 3 if no change bit is set, else one byte, bit p for port p, bit 0 zero.
 unfoldable pub polled : Hub → Outcome
 polled h =
     let b = bitmapOf (h .identity .ports) (h .ports) in
-    cond (eqb b 0) (refuse 3 h) (gives h (b ∷ []))
+    cond (eqb b 0) (givesNothing h) (gives h (b ∷ []))
 
 abbrev pub startedAs : Hub → Started → Outcome
 startedAs h o = plain (withTranslator h (o .next)) (startNumber (o .answer))
 
 -- a result: its number, its PID, and the bytes of data
 abbrev pub completedBy : Hub → CompleteAnswer → Payload → Outcome
-completedBy h NoMatch p = plain h 2
-completedBy h NotYet p = plain h 4
-completedBy h (Gives r) p = record { next = h; answer = pidAnswer (resultNumber r) (resultPid r) (content p) }
+completedBy h NoMatch p = plain h (completeNumber NoMatch)
+completedBy h NotYet p = plain h (completeNumber NotYet)
+completedBy h (Gives r) p = record { next = h; answer = pidAnswer (completeNumber (Gives r)) (resultPid r) (content p) }
 
 abbrev pub completedAs : Hub → Completed → Outcome
 completedAs h o = completedBy (withTranslator h (o .next)) (o .answer) (o .payload)
@@ -50,7 +51,7 @@ completedAs h o = completedBy (withTranslator h (o .next)) (o .answer) (o .paylo
 abbrev pub launchAnswer : StartSplit → List ℕ → Answer
 launchAnswer s l =
     record {
-      number = 1;
+      number = launchNumber (Launches s);
       pid = pidNumber (s .pid);
       transfer = typeNumber (s .transfer);
       lane = laneNumber (s .lane);
@@ -63,8 +64,8 @@ launchAnswer s l =
     }
 
 abbrev pub launchedBy : Hub → LaunchAnswer → Payload → Outcome
-launchedBy h NothingPending p = plain h 3
-launchedBy h Occupied p = plain h 8
+launchedBy h NothingPending p = plain h (launchNumber NothingPending)
+launchedBy h Occupied p = plain h (launchNumber Occupied)
 launchedBy h (Launches s) p = record { next = h; answer = launchAnswer s (content p) }
 
 abbrev pub launchedAs : Hub → Launched → Outcome
@@ -73,8 +74,10 @@ launchedAs h o = launchedBy (withTranslator h (o .next)) (o .answer) (o .payload
 abbrev pub deliveredAs : Hub → Delivered → Outcome
 deliveredAs h o = plain (withTranslator h (o .next)) (deliverNumber (o .answer))
 
+-- a step of port n, with its number
+abbrev pub steppedAt : Hub → PortNumber → Answered → Outcome
+steppedAt h n o = plain (withPortAt h n (o .port)) (o .number)
+
 -- a line event at port n
 abbrev pub eventAt : Hub → LineEvent → PortNumber → Outcome
-eventAt h e n =
-    let o = lineEvent (portAt (h .ports) n) e in
-    plain (withPortAt h n (o .port)) (o .number)
+eventAt h e n = steppedAt h n (lineEvent (portAt (h .ports) n) e)

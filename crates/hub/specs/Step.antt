@@ -20,7 +20,7 @@ use Rattle.hub.specs.Call.{Call, Control, Poll, Start, Complete, Launch,
 use Rattle.hub.specs.Requests.{requested}
 use Rattle.hub.specs.Rules.{polled, startedAs, completedAs, launchedAs, deliveredAs, eventAt}
 
--- 6 a number or length outside the rules: unless
+-- within the rules, else 6 a number or length outside the rules
 unfoldable pub within : Hub → Call → Bool
 -- Setup bytes are exactly 8, else 6. A lane outside 0 and 1 is 6.
 within h (Control z s room) = eqb (length s) 8 && isLane z
@@ -36,7 +36,8 @@ within h (Event e n) = isEvent e && portNamed (h .identity .ports) n
 within h Tick = true
 within h BusReset = true
 
--- 7 reply space under 64 bytes: unless. Calls that can write take reply space: control request, poll, launch, complete-split.
+-- room for a reply, else 7 reply space under 64 bytes. Calls that can write take reply space: control request, poll, launch,
+-- complete-split.
 unfoldable pub roomy : Call → Bool
 roomy (Control z s room) = leb 64 room
 roomy (Poll z room) = leb 64 room
@@ -48,7 +49,8 @@ roomy (Event e n) = true
 roomy Tick = true
 roomy BusReset = true
 
--- 5 silent, hub unconfigured: unless. On an unconfigured hub poll, launch, deliver and both splits answer 5; control requests never do.
+-- heard, else 5 silent, hub unconfigured. On an unconfigured hub poll, launch, deliver and both splits answer 5; control requests never
+-- do.
 unfoldable pub heard : Hub → Call → Bool
 heard h (Control z s room) = true
 heard h (Poll z room) = h .configured
@@ -60,7 +62,7 @@ heard h (Event e n) = true
 heard h Tick = true
 heard h BusReset = true
 
--- 8 not in this state: unless. Line events on an unconfigured hub answer 8.
+-- fitting the state, else 8 not in this state. Line events on an unconfigured hub answer 8.
 unfoldable pub fitting : Hub → Call → Bool
 fitting h (Control z s room) = true
 fitting h (Poll z room) = true

@@ -4,27 +4,29 @@ ghost use mathlib.Core.Path.{_≡_};
 ghost use Prim.Native.Nat.{_+_, _≤_, _^_, min};
 ghost use Rattle.payload.specs.Payload.{content};
 ghost use lib.ListN.{take};
-ghost use Rattle.port.specs.Reaction.{numberOf};
+ghost use Rattle.port.specs.Reaction.{numberOf, answered};
 ghost use Rattle.port.specs.Status.{statusBytes};
 ghost use Rattle.ports.specs.Ports.{portAt};
 ghost use Rattle.ports.specs.Sweep.{swept};
 ghost use Rattle.hub.specs.Hub.{newFits, hubOf, newHub, withPorts, withTranslator, withPortAt, configurationSweep, configuredAs};
-ghost use Rattle.hub.specs.Call.{outcomeOf, plain, gives, pidAnswer};
+ghost use Rattle.hub.specs.Call.{outcomeOf, plain, done, stall, gives, givesNothing, pidAnswer};
 ghost use Rattle.hub.specs.Call.Call.{Control, Poll, Start, Complete, Launch, Deliver, Event, Tick, BusReset};
 ghost use Rattle.hub.specs.Requests.{descriptor, keyed, setFeature, clearFeature, byRequest, servedAlways, requested};
-ghost use Rattle.hub.specs.Rules.{completedAs, launchAnswer, launchedAs};
+ghost use Rattle.hub.specs.Rules.{completedAs, launchAnswer, launchedAs, steppedAt};
 ghost use Rattle.hub.specs.Step.{firstRefusal, step};
 ghost use Rattle.hub.specs.Claims.{HubClaims};
 ghost use Rattle.hub.specs.Cases.{BenchCases};
+use buffer::BufferCount;
 use buffer::Key;
 use buffer::Lane;
 use buffer::StartSplit;
 use payload::Payload;
 use port::ClearableFeature;
-use port::EventAnswer;
 use port::Port;
+use port::PortCount;
 use port::PortNumber;
 use port::SettableFeature;
+use port::StepAnswer;
 use ports::Sweep;
 use request::Pipe;
 use request::Request;
@@ -85,6 +87,27 @@ fn answer(hub: Hub, number: u8) -> Stepped
     reply_pid(hub, number, 0, Payload::none())
 }
 
+// 0: done.
+fn done(hub: Hub) -> Stepped
+    ensures { λ r. ⌜ outcomeOf r ≡ done hub ⌝ }
+{
+    answer(hub, 0)
+}
+
+// 2: STALL.
+fn stall(hub: Hub) -> Stepped
+    ensures { λ r. ⌜ outcomeOf r ≡ stall hub ⌝ }
+{
+    answer(hub, 2)
+}
+
+// 3: nothing to give.
+fn give_nothing(hub: Hub) -> Stepped
+    ensures { λ r. ⌜ outcomeOf r ≡ givesNothing hub ⌝ }
+{
+    answer(hub, 3)
+}
+
 // A number with a PID and bytes.
 fn reply_pid(hub: Hub, number: u8, pid: u8, payload: Payload) -> Stepped
     ensures { λ r. ⌜ outcomeOf r ≡ record { next = hub; answer = pidAnswer number pid (content payload) } ⌝ }
@@ -106,7 +129,7 @@ fn reply_pid(hub: Hub, number: u8, pid: u8, payload: Payload) -> Stepped
     }
 }
 
-// Data.
+// 1: data.
 fn give_data(hub: Hub, payload: Payload) -> Stepped
     ensures { λ r. ⌜ outcomeOf r ≡ gives hub (content payload) ⌝ }
 {
@@ -123,7 +146,7 @@ fn give_launch(hub: Hub, split: StartSplit, payload: Payload) -> Stepped
     Stepped {
         hub,
         reply: Reply {
-            number: 1,
+            number: numbers::launch_answer(LaunchAnswer::Launches(split)),
             pid: numbers::pid_number(pid),
             transfer: numbers::type_number(transfer),
             lane: numbers::lane_number(lane),
@@ -199,8 +222,8 @@ impl Hub {
             return Made {
                 number: 0,
                 hub: hub_of(
-                    (ports % 256) as u8,
-                    (buffers % 256) as u8,
+                    PortCount((ports % 256) as u8),
+                    BufferCount((buffers % 256) as u8),
                     (powergood % 256) as u8,
                     (current % 256) as u8,
                     (removable % 256) as u8,
@@ -209,7 +232,7 @@ impl Hub {
         }
         Made {
             number: 6,
-            hub: hub_of(0, 0, 0, 0, 0),
+            hub: hub_of(PortCount(0), BufferCount(0), 0, 0, 0),
         }
     }
 
@@ -239,6 +262,12 @@ impl Hub {
         }
     }
 
+    pub fn port_count(self) -> PortCount
+        ensures { λ r. ⌜ r ≡ record { 0 = self .identity .ports } ⌝ }
+    {
+        PortCount(self.identity.ports)
+    }
+
     fn port(self, n: PortNumber) -> Port
         ensures { λ r. ⌜ r ≡ portAt (self .ports) n ⌝ }
     {
@@ -253,11 +282,20 @@ impl Hub {
         self.with_ports(ports::with_port(ports, n, port))
     }
 
+    // What a step of port n leaves and answers.
+    fn with_step(self, n: PortNumber, o: port::Stepped) -> Stepped
+        ensures { λ r. ⌜ outcomeOf r ≡ steppedAt self n (answered o) ⌝ }
+    {
+        let next = o.port;
+        let said = o.answer;
+        answer(self.with_port(n, next), step_answer(said))
+    }
+
     fn sweep(self, what: Sweep) -> [Port; 7]
         ensures { λ r. ⌜ r ≡ swept what (self .identity .ports) (self .ports) ⌝ }
     {
         let ports = self.ports;
-        ports::sweep_first(ports, self.identity.ports, what)
+        ports::sweep_first(ports, self.port_count(), what)
     }
 
     // SetConfiguration.
@@ -276,12 +314,12 @@ impl Hub {
     }
 }
 
-fn hub_of(ports: u8, buffers: u8, powergood: u8, current: u8, removable: u8) -> Hub
-    ensures { λ r. ⌜ r ≡ hubOf ports buffers powergood current removable ⌝ }
+fn hub_of(ports: PortCount, buffers: BufferCount, powergood: u8, current: u8, removable: u8) -> Hub
+    ensures { λ r. ⌜ r ≡ hubOf (ports .0) (buffers .0) powergood current removable ⌝ }
 {
     Hub {
         identity: Identity {
-            ports,
+            ports: ports.0,
             powergood,
             current,
             removable,
@@ -364,16 +402,16 @@ impl Hub {
         give_data(self, Payload::of(&status))
     }
 
-    fn clear_feature(self, n: PortNumber, feature: ClearableFeature) -> Hub
-        ensures { λ r. ⌜ r ≡ clearFeature self n feature ⌝ }
+    fn clear_feature(self, n: PortNumber, feature: ClearableFeature) -> Stepped
+        ensures { λ r. ⌜ outcomeOf r ≡ done (clearFeature self n feature) ⌝ }
     {
-        self.with_port(n, self.port(n).clear_feature(feature))
+        self.with_step(n, self.port(n).clear_feature(feature))
     }
 
-    fn set_feature(self, n: PortNumber, feature: SettableFeature) -> Hub
-        ensures { λ r. ⌜ r ≡ setFeature self n feature ⌝ }
+    fn set_feature(self, n: PortNumber, feature: SettableFeature) -> Stepped
+        ensures { λ r. ⌜ outcomeOf r ≡ done (setFeature self n feature) ⌝ }
     {
-        self.with_port(n, self.port(n).set_feature(feature))
+        self.with_step(n, self.port(n).set_feature(feature))
     }
 
     fn by_request(self, lane: Lane, request: Request) -> Stepped
@@ -381,8 +419,8 @@ impl Hub {
     {
         let translator = self.translator;
         match request {
-            Request::Wrong(_) => answer(self, 2),
-            Request::SetConfiguration(on) => answer(self.configure(on), 0),
+            Request::Wrong(_) => stall(self),
+            Request::SetConfiguration(on) => done(self.configure(on)),
             Request::GetConfiguration => give_data(
                 self,
                 Payload::of(&[numbers::flag_number(self.configured)]),
@@ -390,14 +428,14 @@ impl Hub {
             Request::GetHubDescriptor(length) => self.get_descriptor(length),
             Request::GetHubStatus => give_data(self, Payload::of(&[0, 0, 0, 0])),
             Request::GetPortStatus(n) => self.get_port_status(n),
-            Request::ClearHubFeature => answer(self, 0),
-            Request::ClearPortFeature(n, feature) => answer(self.clear_feature(n, feature), 0),
-            Request::SetPortFeature(n, feature) => answer(self.set_feature(n, feature), 0),
-            Request::ClearTTBuffer(pipe) => answer(
-                self.with_translator(translator.clear_buffer(keyed(lane, pipe))),
-                0,
-            ),
-            Request::ResetTT => answer(self.with_translator(translator.reset_lane(lane)), 0),
+            Request::ClearHubFeature => done(self),
+            Request::ClearPortFeature(n, feature) => self.clear_feature(n, feature),
+            Request::SetPortFeature(n, feature) => self.set_feature(n, feature),
+            Request::ClearTTBuffer(pipe) => done(self.with_translator(translator.clear_buffer(keyed(
+                lane,
+                pipe,
+            )))),
+            Request::ResetTT => done(self.with_translator(translator.reset_lane(lane))),
         }
     }
 
@@ -407,7 +445,7 @@ impl Hub {
         if logic::either(self.configured, is_served_always(request)) {
             return self.by_request(lane, request);
         }
-        answer(self, 2)
+        stall(self)
     }
 }
 
@@ -441,7 +479,7 @@ impl Hub {
         ];
         self.serve(
             numbers::lane_of(lane),
-            request::read(bytes, self.identity.ports),
+            request::read(bytes, self.port_count()),
         )
     }
 
@@ -453,9 +491,9 @@ impl Hub {
         if refusal != 0 {
             return answer(self, refusal);
         }
-        let bitmap = ports::bitmap(ports, self.identity.ports);
+        let bitmap = ports::bitmap(ports, self.port_count());
         if bitmap == 0 {
-            return answer(self, 3);
+            return give_nothing(self);
         }
         give_data(self, Payload::of(&[bitmap]))
     }
@@ -518,12 +556,13 @@ impl Hub {
         let said = o.answer;
         let payload = o.payload;
         let hub = self.with_translator(next);
+        let number = numbers::complete_answer(said);
         match said {
-            CompleteAnswer::NoMatch => answer(hub, 2),
-            CompleteAnswer::NotYet => answer(hub, 4),
+            CompleteAnswer::NoMatch => answer(hub, number),
+            CompleteAnswer::NotYet => answer(hub, number),
             CompleteAnswer::Gives(result) => reply_pid(
                 hub,
-                numbers::complete_answer(CompleteAnswer::Gives(result)),
+                number,
                 numbers::complete_pid(result),
                 payload,
             ),
@@ -551,9 +590,10 @@ impl Hub {
         let said = o.answer;
         let payload = o.payload;
         let hub = self.with_translator(next);
+        let number = numbers::launch_answer(said);
         match said {
-            LaunchAnswer::NothingPending => answer(hub, 3),
-            LaunchAnswer::Occupied => answer(hub, 8),
+            LaunchAnswer::NothingPending => answer(hub, number),
+            LaunchAnswer::Occupied => answer(hub, number),
             LaunchAnswer::Launches(split) => give_launch(hub, split, payload),
         }
     }
@@ -578,30 +618,25 @@ impl Hub {
     pub fn line_event(self, event: u32, port: u32) -> Stepped
         ensures { λ r. ⌜ outcomeOf r ≡ step self (Event event port) ⌝ }
     {
-        let n = PortNumber(port);
         let within = logic::both(
             numbers::is_event(event),
-            numbers::port_named(self.identity.ports, port),
+            numbers::port_named(self.port_count(), port),
         );
-        let o = self.port(n).line_event(numbers::event_of(event));
-        let said = o.answer;
-        let next = o.port;
-        let number = event_answer(said);
-        let fits = logic::both(self.configured, number != 8);
-        let refusal = first_refusal(within, true, true, fits);
+        let refusal = first_refusal(within, true, true, self.configured);
         if refusal != 0 {
             return answer(self, refusal);
         }
-        answer(self.with_port(n, next), number)
+        let n = PortNumber(port);
+        self.with_step(n, self.port(n).line_event(numbers::event_of(event)))
     }
 
     pub fn tick(self) -> Stepped
         ensures { λ r. ⌜ outcomeOf r ≡ step self Tick ⌝ }
     {
         if self.configured {
-            return answer(self.with_ports(self.sweep(Sweep::Tick)), 0);
+            return done(self.with_ports(self.sweep(Sweep::Tick)));
         }
-        answer(self, 0)
+        done(self)
     }
 
     pub fn bus_reset(self) -> Stepped
@@ -615,16 +650,16 @@ impl Hub {
             ports: ports::new_ports(),
             translator: translator.empty(),
         };
-        answer(hub, 0)
+        done(hub)
     }
 }
 
-fn event_answer(answer: EventAnswer) -> u8
+fn step_answer(answer: StepAnswer) -> u8
     ensures { λ r. ⌜ r ≡ numberOf answer ⌝ }
 {
     match answer {
-        EventAnswer::Done => 0,
-        EventAnswer::NotInThisState => 8,
+        StepAnswer::Done => 0,
+        StepAnswer::NotInThisState => 8,
     }
 }
 

@@ -24,7 +24,7 @@ use Rattle.translator.specs.Translator.{emptied}
 use Rattle.numbers.specs.Written.{eventNumber}
 use Rattle.hub.specs.declared.Hub.{Hub}
 use Rattle.hub.specs.Hub.{withPorts, withPortAt, withTranslator}
-use Rattle.hub.specs.Call.{Outcome, done, refuse, gives}
+use Rattle.hub.specs.Call.{Outcome, done, gives, givesNothing}
 use Rattle.hub.specs.Rules.{polled, eventAt}
 use Rattle.runs.specs.Altered.{PortRules, ownPorts, withEvent, withStatus, withSet, withPoll, alteredPorts}
 use Rattle.isolation.specs.Isolation.{SameBut, SameAnswers, AtMatchingPoints}
@@ -81,7 +81,7 @@ readsFirst = withStatus (λ h m. ownPorts .status h port1)
 
 -- a poll that has something to give gives every bit
 abbrev pub pollsAll : PortRules
-pollsAll = withPoll (λ h. cond (eqb (bitmapOf (h .identity .ports) (h .ports)) 0) (refuse 3 h) (gives h (0xFE ∷ [])))
+pollsAll = withPoll (λ h. cond (eqb (bitmapOf (h .identity .ports) (h .ports)) 0) (givesNothing h) (gives h (0xFE ∷ [])))
 
 -- a poll that tells of port 1 tells of no other
 abbrev pub hidesOthers : PortRules

@@ -41,6 +41,7 @@ use buffer::Pid;
 use buffer::StartSplit;
 use buffer::TransferType;
 use port::LineEvent;
+use port::PortCount;
 use translator::Choice;
 use translator::CompleteAnswer;
 use translator::DeliverAnswer;
@@ -165,10 +166,10 @@ pub fn flag_of(n: u32) -> bool
 }
 
 // One of a hub's `count` ports.
-pub fn port_named(count: u8, n: u32) -> bool
-    ensures { λ r. ⌜ r ≡ portNamed count n ⌝ }
+pub fn port_named(count: PortCount, n: u32) -> bool
+    ensures { λ r. ⌜ r ≡ portNamed (count .0) n ⌝ }
 {
-    logic::both(1 <= n, n <= count as u32)
+    logic::both(1 <= n, n <= count.0 as u32)
 }
 
 // ---- start-splits and keys

@@ -24,15 +24,16 @@ use Rattle.hub.specs.declared.Hub.{Hub}
 use Rattle.hub.specs.Hub.{withTranslator}
 use Rattle.hub.specs.Valid.{ValidHub}
 use Rattle.taken.specs.Rows.{flat}
-use Rattle.area.specs.Written.{portBytes, bufferBytes, headBytes, lowByte, runningByte, written}
+use Rattle.area.specs.Written.{portBytes, bufferBytes, headBytes, lowByte, runningByte, written, placed, bufferPut}
+use Rattle.area.specs.Read.{bufferFrom}
 use Rattle.taken.specs.Read.{bufferOf, lowOf}
 use Rattle.taken.proofs.Rows.{Kept, All, all-map, all-take, flat-size, flat-length, row-put}
 use Rattle.area.proofs.Ports.{port-size}
 use Rattle.area.proofs.Buffers.{buffer-size, buffer-again}
 use Rattle.area.proofs.Ties.{low-again}
 use Rattle.area.proofs.Exact.{ports-there, buffers-there}
-use Rattle.parts.specs.Parts.{headAt, bufferAt, slotAt, slotsAt, placed, lowOver, bufferOver}
-use Rattle.parts.proofs.Over.{placed-is, over-none, over-some, row-got}
+use Rattle.parts.specs.Parts.{headAt, bufferAt, slotAt, slotsAt, lowOver, bufferOver}
+use Rattle.area.proofs.Over.{placed-is, over-none, over-some, row-got}
 
 -- what a hub's written form needs to have its parts at their places; less than validity, so that it holds between two writings
 pub record Shaped (h : Hub) : Type 0 where
@@ -131,7 +132,7 @@ module _ (h : Hub) (v : Shaped h) where
           ∙ buffer-size (getD all i vacant) (v .whole i)
 
       put-inside : (b : Buffer) → bufferOver (h .identity .ports) m b (written h) ≡ written (withTranslator h (withBuffer (h .translator) m b))
-      unfolding bufferOver written
+      unfolding bufferOver bufferPut written
       put-inside b =
           ap (λ (t : Bool). cond t (placed (start + i * 72) 72 (bufferBytes b) (written h)) (written h)) (le-leb (start + i * 72 + 72) (length (written h)) room)
           ∙ sym (placed-is (start + i * 72) 72 (written h) (bufferBytes b))
@@ -142,7 +143,7 @@ module _ (h : Hub) (v : Shaped h) where
           ∙ ap (λ (r : List Buffer). hd ++ (ps ++ flat bufferBytes r)) (sym (take-set-lt (h .translator .count) all i b k))
 
       pub got-inside : bufferAt (h .identity .ports) m (written h) ≡ getD all i vacant
-      unfolding bufferAt
+      unfolding bufferAt bufferFrom
       got-inside =
           sym (over-some (start + i * 72 + 72) (written h) (bufferOf (take 72 (drop (start + i * 72) (written h)))) vacant room)
           ∙ ap (λ (r : List ℕ). bufferOf (take 72 (drop (start + i * 72) r))) joined
@@ -155,13 +156,13 @@ module _ (h : Hub) (v : Shaped h) where
       no-room = omega (arith, whole-long, k)
 
       put-outside : (b : Buffer) → bufferOver (h .identity .ports) m b (written h) ≡ written (withTranslator h (withBuffer (h .translator) m b))
-      unfolding bufferOver written
+      unfolding bufferOver bufferPut written
       put-outside b =
           sym (over-none (start + i * 72 + 72) (written h) (placed (start + i * 72) 72 (bufferBytes b) (written h)) (written h) no-room)
           ∙ ap (λ (r : List Buffer). hd ++ (ps ++ flat bufferBytes r)) (sym (take-set-le (h .translator .count) all i b k))
 
       got-outside : bufferAt (h .identity .ports) m (written h) ≡ vacant
-      unfolding bufferAt
+      unfolding bufferAt bufferFrom
       got-outside = sym (over-none (start + i * 72 + 72) (written h) (bufferOf (take 72 (drop (start + i * 72) (written h)))) vacant no-room)
 
     pub buffer-anew : (b : Buffer) → bufferOver (h .identity .ports) m b (written h) ≡ written (withTranslator h (withBuffer (h .translator) m b))
@@ -189,16 +190,21 @@ module _ (h : Hub) (v : ValidHub h) where
       rw (slot 0, slot 1, slot 2, slot 3) (slots-four vacant (h .translator .buffers) (v .translator .four))
 
   pub head-there : headAt (written h)
-      ≡ record { ports = h .identity .ports; count = h .translator .count; configured = h .configured; low = h .translator .low }
+      ≡ record {
+        ports = record { 0 = h .identity .ports };
+        count = record { 0 = h .translator .count };
+        configured = h .configured;
+        low = h .translator .low;
+      }
   unfolding headAt written headBytes
   head-there =
       sym (over-some 8 (written h)
       (record {
-        ports = h .identity .ports;
-        count = h .translator .count;
+        ports = record { 0 = h .identity .ports };
+        count = record { 0 = h .translator .count };
         configured = eqb (bit (h .configured)) 1;
         low = lowOf (lowByte (h .translator .low)) (runningByte (h .translator .low));
       })
-      (record { ports = 0; count = 0; configured = false; low = Idle })
+      (record { ports = record { 0 = 0 }; count = record { 0 = 0 }; configured = false; low = Idle })
       (omega (arith, whole-long h (shaped h v))))
       ∙ rw (bit-again (h .configured), low-again (h .translator .low))

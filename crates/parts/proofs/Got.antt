@@ -1,52 +1,52 @@
--- What the functions that get a part come to, over plain values. Assumes nothing.
+-- What getting a part and putting the low side come to, over plain values. Assumes nothing.
 use mathlib.Core.Path.{_≡_, refl, ap, _∙_}
 use mathlib.Core.List.{List, [], _∷_}
 use mathlib.Core.Bool.{false}
-use Prim.Native.Nat.{ℕ, _+_, _-_, _*_, _≤_, _<_}
+use Prim.Native.Nat.{ℕ, _≤_, _<_}
 use lib.Dec.{eqb}
-use lib.ListN.{length, getD, take, drop}
+use lib.ListN.{length, getD, set}
+use native.Mathlib.Omega.{arith}
 use Rattle.buffer.specs.declared.Slot.{Slot}
-use Rattle.buffer.specs.declared.Slot.the-variants.{Empty}
-use Rattle.buffer.specs.declared.Buffer.{Buffer}
-use Rattle.buffer.specs.declared.BufferNumber.{BufferNumber}
-use Rattle.buffer.specs.Buffer.{vacant}
 use Rattle.translator.specs.declared.LowSide.{LowSide}
 use Rattle.translator.specs.declared.LowSide.the-variants.{Idle}
-use Rattle.taken.specs.Read.{slotOf, bufferOf, lowOf}
+use Rattle.taken.specs.Read.{lowOf}
+use Rattle.area.specs.Written.{lowByte, runningByte, placed}
 use Rattle.parts.specs.declared.Head.{Head}
-use Rattle.parts.specs.Parts.{headAt, bufferAt, slotAt, slotsAt}
-use Rattle.parts.proofs.Over.{over-none, over-some, cut-size}
+use Rattle.parts.specs.Parts.{headAt, slotAt, slotsAt, lowOver}
+use Rattle.area.proofs.Over.{over-none, over-some}
 
 module _ (a : List ℕ) where
-  pub head-none : length a < 8 → _≡_ {A = Head} (record { ports = 0; count = 0; configured = false; low = Idle }) (headAt a)
+  pub head-none : length a < 8 → _≡_ {A = Head} (record { ports = record { 0 = 0 }; count = record { 0 = 0 }; configured = false; low = Idle }) (headAt a)
   unfolding headAt
   head-none h = over-none 8 a _ _ h
 
   pub head-some : 8 ≤ length a → (l : LowSide) → l ≡ lowOf (getD a 6 0) (getD a 7 0)
-      → record { ports = getD a 0 0; count = getD a 1 0; configured = eqb (getD a 5 0) 1; low = l } ≡ headAt a
+      → record { ports = record { 0 = getD a 0 0 }; count = record { 0 = getD a 1 0 }; configured = eqb (getD a 5 0) 1; low = l } ≡ headAt a
   unfolding headAt
   head-some h l e =
-      ap (λ (x : LowSide). record { ports = getD a 0 0; count = getD a 1 0; configured = eqb (getD a 5 0) 1; low = x }) e ∙ over-some 8 a _ _ h
-
-  module _ (n : ℕ) (i : BufferNumber) where
-    abbrev start : ℕ
-    start = 8 + n * 4 + i .0 * 72
-
-    pub buffer-none : length a < start + 72 → (b : Buffer) → b ≡ vacant → b ≡ bufferAt n i a
-    unfolding bufferAt
-    buffer-none h b e = e ∙ over-none (start + 72) a _ _ h
-
-    pub buffer-some : start + 72 ≤ length a → (b : Buffer) → b ≡ bufferOf (take (start + 72 - start) (drop start a)) → b ≡ bufferAt n i a
-    unfolding bufferAt
-    buffer-some h b e = e ∙ cut-size bufferOf start 72 a ∙ over-some (start + 72) a _ _ h
-
-    pub slot-none : length a < start + 72 → Empty ≡ bufferAt n i a .slot
-    slot-none h = ap (λ (b : Buffer). b .slot) (buffer-none h vacant refl)
-
-    pub slot-some : start + 72 ≤ length a → (s : Slot) → s ≡ slotOf (take (start + 72 - start) (drop start a)) → s ≡ bufferAt n i a .slot
-    unfolding bufferOf
-    slot-some h s e = e ∙ ap (λ (b : Buffer). b .slot) (buffer-some h _ refl)
+      ap (λ (x : LowSide). record { ports = record { 0 = getD a 0 0 }; count = record { 0 = getD a 1 0 }; configured = eqb (getD a 5 0) 1; low = x }) e ∙ over-some 8 a _ _ h
 
   pub slots-all : (n : ℕ) (s t u v : Slot) → s ≡ slotAt n 0 a → t ≡ slotAt n 1 a → u ≡ slotAt n 2 a → v ≡ slotAt n 3 a → s ∷ t ∷ u ∷ v ∷ [] ≡ slotsAt n a
   unfolding slotsAt
   slots-all n s t u v e f g h = rw (e, f, g, h)
+
+-- two bytes written, of the first eight
+low-set : (a : List ℕ) (x y : ℕ) → 8 ≤ length a → set (set a 6 x) 7 y ≡ placed 6 2 (x ∷ y ∷ []) a
+low-set [] x y h = absurd (omega arith)
+low-set (a ∷ []) x y h = absurd (omega arith)
+low-set (a ∷ b ∷ []) x y h = absurd (omega arith)
+low-set (a ∷ b ∷ c ∷ []) x y h = absurd (omega arith)
+low-set (a ∷ b ∷ c ∷ d ∷ []) x y h = absurd (omega arith)
+low-set (a ∷ b ∷ c ∷ d ∷ e ∷ []) x y h = absurd (omega arith)
+low-set (a ∷ b ∷ c ∷ d ∷ e ∷ f ∷ []) x y h = absurd (omega arith)
+low-set (a ∷ b ∷ c ∷ d ∷ e ∷ f ∷ g ∷ []) x y h = absurd (omega arith)
+low-set (a ∷ b ∷ c ∷ d ∷ e ∷ f ∷ g ∷ i ∷ l) x y h = refl
+
+module _ (a : List ℕ) (low : LowSide) where
+  pub low-not : length a < 8 → a ≡ lowOver low a
+  unfolding lowOver
+  low-not h = over-none 8 a _ _ h
+
+  pub low-put : {x y : ℕ} → 8 ≤ length a → x ≡ lowByte low → y ≡ runningByte low → set (set a 6 x) 7 y ≡ lowOver low a
+  unfolding lowOver
+  low-put h e f = low-set a _ _ h ∙ rw (e, f) (over-some 8 a _ _ h)

@@ -1,4 +1,3 @@
-pub mod Over
 pub mod Got
 pub mod Anew
 pub mod Storing

@@ -18,7 +18,12 @@ use Rattle.parts.specs.Parts.{headAt, bufferAt, slotsAt, lowOver, buffer
 
 pub record PartsExact : Type 0 where
   pub head-got : (h : Hub) → ValidHub h
-      → headAt (written h) ≡ record { ports = h .identity .ports; count = h .translator .count; configured = h .configured; low = h .translator .low }
+      → headAt (written h) ≡ record {
+        ports = record { 0 = h .identity .ports };
+        count = record { 0 = h .translator .count };
+        configured = h .configured;
+        low = h .translator .low;
+      }
   pub buffer-got : (h : Hub) (n : BufferNumber) → ValidHub h → bufferAt (h .identity .ports) n (written h) ≡ at (h .translator .buffers) (n .0)
   pub slots-got : (h : Hub) → ValidHub h → slotsAt (h .identity .ports) (written h) ≡ slotsIn (h .translator .buffers)
   pub low-put : (h : Hub) (low : LowSide) → ValidHub h → lowOver low (written h) ≡ written (withTranslator h (withLow (h .translator) low))

@@ -1,9 +1,9 @@
 -- Parts of an area, one at a time, for any bytes. A reader need not believe these: `PartsExact` says what they come to on the written form
 -- of a valid hub.
 use Prim.Native.Nat.{ℕ, _+_, _*_}
-use mathlib.Core.List.{List, [], _∷_, _++_}
+use mathlib.Core.List.{List, [], _∷_}
 use mathlib.Core.Bool.{false, cond}
-use lib.ListN.{length, getD, take, drop}
+use lib.ListN.{length, getD}
 use lib.Dec.{eqb, leb}
 use Rattle.payload.specs.Payload.{payloadOf}
 use Rattle.buffer.specs.declared.Slot.{Slot}
@@ -11,13 +11,13 @@ use Rattle.buffer.specs.declared.Slot.the-variants.{Empty, Pending, Ready, Old}
 use Rattle.buffer.specs.declared.StartSplit.{StartSplit}
 use Rattle.buffer.specs.declared.Buffer.{Buffer}
 use Rattle.buffer.specs.declared.BufferNumber.{BufferNumber}
-use Rattle.buffer.specs.Buffer.{vacant}
 use Rattle.translator.specs.declared.LowSide.{LowSide}
 use Rattle.translator.specs.declared.LowSide.the-variants.{Idle}
 use Rattle.translator.specs.Order.{waiting, before}
 use Rattle.translator.specs.Slots.{bare}
-use Rattle.area.specs.Written.{bufferBytes, lowByte, runningByte}
-use Rattle.taken.specs.Read.{bufferOf, lowOf}
+use Rattle.area.specs.Written.{lowByte, runningByte, placed, bufferPut}
+use Rattle.area.specs.Read.{bufferFrom}
+use Rattle.taken.specs.Read.{lowOf}
 use Rattle.parts.specs.declared.Head.{Head}
 
 -- ---- got
@@ -26,12 +26,21 @@ use Rattle.parts.specs.declared.Head.{Head}
 unfoldable pub headAt : List ℕ → Head
 headAt a =
     cond (leb 8 (length a))
-    (record { ports = getD a 0 0; count = getD a 1 0; configured = eqb (getD a 5 0) 1; low = lowOf (getD a 6 0) (getD a 7 0) })
-    (record { ports = 0; count = 0; configured = false; low = Idle })
+    (record {
+      ports = record { 0 = getD a 0 0 };
+      count = record { 0 = getD a 1 0 };
+      configured = eqb (getD a 5 0) 1;
+      low = lowOf (getD a 6 0) (getD a 7 0);
+    })
+    (record { ports = record { 0 = 0 }; count = record { 0 = 0 }; configured = false; low = Idle })
+
+-- where the bytes of buffer i begin, of a hub of n ports
+abbrev pub bufferStart : ℕ → BufferNumber → ℕ
+bufferStart n i = 8 + n * 4 + i .0 * 72
 
 -- buffer i of a hub of n ports; an empty one where the area doesn't have its bytes
 unfoldable pub bufferAt : ℕ → BufferNumber → List ℕ → Buffer
-bufferAt n i a = cond (leb (8 + n * 4 + i .0 * 72 + 72) (length a)) (bufferOf (take 72 (drop (8 + n * 4 + i .0 * 72) a))) vacant
+bufferAt n i a = bufferFrom (bufferStart n i) a
 
 abbrev pub slotAt : ℕ → ℕ → List ℕ → Slot
 slotAt n i a = bufferAt n (record { 0 = i }) a .slot
@@ -41,17 +50,13 @@ slotsAt n a = slotAt n 0 a ∷ slotAt n 1 a ∷ slotAt n 2 a ∷ slotAt n 3 a �
 
 -- ---- put
 
--- k bytes from n on are p now
-abbrev pub placed : ℕ → ℕ → List ℕ → List ℕ → List ℕ
-placed n k p a = take n a ++ (p ++ drop (n + k) a)
-
 -- the area with this low side, if it has its bytes
 unfoldable pub lowOver : LowSide → List ℕ → List ℕ
 lowOver low a = cond (leb 8 (length a)) (placed 6 2 (lowByte low ∷ runningByte low ∷ []) a) a
 
 -- the area of a hub of n ports with this buffer, if it has its bytes
 unfoldable pub bufferOver : ℕ → BufferNumber → Buffer → List ℕ → List ℕ
-bufferOver n i b a = cond (leb (8 + n * 4 + i .0 * 72 + 72) (length a)) (placed (8 + n * 4 + i .0 * 72) 72 (bufferBytes b) a) a
+bufferOver n i b a = bufferPut (bufferStart n i) b a
 
 -- the pending buffer i with its rank among the slots as its place; any other stays
 unfoldable pub rankOver : List Slot → ℕ → BufferNumber → Slot → List ℕ → List ℕ

@@ -1,20 +1,20 @@
 // Parts of a lent area, one at a time: the numbers of its head, the slots, one buffer, the low side.
 ghost use mathlib.Core.Path.{_≡_};
-ghost use mathlib.Core.List.{[], _∷_};
-ghost use Rattle.area.specs.Written.{lowByte, runningByte};
-ghost use Rattle.parts.specs.Parts.{headAt, bufferAt, slotsAt, lowOver, bufferOver, rankOver, storeOver};
+ghost use Rattle.parts.specs.Parts.{headAt, bufferStart, bufferAt, slotsAt, lowOver, bufferOver, rankOver, storeOver};
 ghost use Rattle.parts.specs.Claims.{PartsExact};
 use buffer::Buffer;
+use buffer::BufferCount;
 use buffer::BufferNumber;
 use buffer::Slot;
 use buffer::StartSplit;
 use payload::Payload;
+use port::PortCount;
 use translator::LowSide;
 
 // What the translator's calls need of the first 8 bytes.
 pub struct Head {
-    pub ports: u8,
-    pub count: u8,
+    pub ports: PortCount,
+    pub count: BufferCount,
     pub configured: bool,
     pub low: LowSide,
 }
@@ -24,58 +24,49 @@ pub fn head_at(area: &[u8]) -> Head
 {
     if area.len() < 8 {
         return Head {
-            ports: 0,
-            count: 0,
+            ports: PortCount(0),
+            count: BufferCount(0),
             configured: false,
             low: LowSide::Idle,
         };
     }
     Head {
-        ports: area[0],
-        count: area[1],
+        ports: PortCount(area[0]),
+        count: BufferCount(area[1]),
         configured: area[5] == 1,
         low: area::low_of(area[6], area[7]),
     }
 }
 
-// Buffer `number` of a hub with so many ports; an empty one where the area doesn't have its bytes.
-pub fn buffer_at(area: &[u8], ports: u8, number: BufferNumber) -> Buffer
-    ensures { λ r. ⌜ r ≡ bufferAt ports number (now (area .entry)) ⌝ }
+// Where the bytes of a buffer begin, of a hub with so many ports.
+fn start_of(ports: PortCount, number: BufferNumber) -> u16
+    ensures { λ r. ⌜ r ≡ bufferStart (ports .0) number ⌝ }
 {
-    let at = 8 + (ports as usize) * 4 + (number.0 as usize) * 72;
-    let end = at + 72;
-    if area.len() < end {
-        return Buffer::vacant();
-    }
-    area::buffer_of(&area[at..end])
+    8 + (ports.0 as u16) * 4 + (number.0 as u16) * 72
+}
+
+// Buffer `number` of a hub with so many ports; an empty one where the area doesn't have its bytes.
+pub fn buffer_at(area: &[u8], ports: PortCount, number: BufferNumber) -> Buffer
+    ensures { λ r. ⌜ r ≡ bufferAt (ports .0) number (now (area .entry)) ⌝ }
+{
+    area::buffer_at(area, start_of(ports, number))
 }
 
 // Its slot alone.
-pub fn slot_at(area: &[u8], ports: u8, number: BufferNumber) -> Slot
-    ensures { λ r. ⌜ r ≡ bufferAt ports number (now (area .entry)) .slot ⌝ }
+pub fn slot_at(area: &[u8], ports: PortCount, number: BufferNumber) -> Slot
+    ensures { λ r. ⌜ r ≡ bufferAt (ports .0) number (now (area .entry)) .slot ⌝ }
 {
-    let at = 8 + (ports as usize) * 4 + (number.0 as usize) * 72;
-    let end = at + 72;
-    if area.len() < end {
-        return Slot::Empty;
-    }
-    area::slot_of(&area[at..end])
+    area::slot_at(area, start_of(ports, number))
 }
 
-pub fn slots_at(area: &[u8], ports: u8) -> [Slot; 4]
-    ensures { λ r. ⌜ r ≡ slotsAt ports (now (area .entry)) ⌝ }
+pub fn slots_at(area: &[u8], ports: PortCount) -> [Slot; 4]
+    ensures { λ r. ⌜ r ≡ slotsAt (ports .0) (now (area .entry)) ⌝ }
 {
     let a = slot_at(area, ports, BufferNumber(0));
     let b = slot_at(area, ports, BufferNumber(1));
     let c = slot_at(area, ports, BufferNumber(2));
     let d = slot_at(area, ports, BufferNumber(3));
     [a, b, c, d]
-}
-
-fn low_bytes(low: LowSide) -> [u8; 2]
-    ensures { λ r. ⌜ r ≡ lowByte low ∷ runningByte low ∷ [] ⌝ }
-{
-    [area::low_byte(low), area::running_byte(low)]
 }
 
 // The low side anew, where the area has its bytes.
@@ -85,25 +76,20 @@ pub fn write_low(low: LowSide, area: &mut [u8])
     if area.len() < 8 {
         return;
     }
-    let form = low_bytes(low);
-    area::fill(&mut area[6..8], &form);
+    area[6] = area::low_byte(low);
+    area[7] = area::running_byte(low);
 }
 
 // One buffer anew, of a hub with so many ports, where the area has its bytes.
-pub fn write_buffer(ports: u8, number: BufferNumber, buffer: Buffer, area: &mut [u8])
-    ensures { λ _. ⌜ now (area .exit) ≡ bufferOver ports number buffer (now (area .entry)) ⌝ }
+pub fn write_buffer(ports: PortCount, number: BufferNumber, buffer: Buffer, area: &mut [u8])
+    ensures { λ _. ⌜ now (area .exit) ≡ bufferOver (ports .0) number buffer (now (area .entry)) ⌝ }
 {
-    let at = 8 + (ports as usize) * 4 + (number.0 as usize) * 72;
-    let end = at + 72;
-    if area.len() < end {
-        return;
-    }
-    area::put_buffer(&mut area[at..end], buffer);
+    area::put_buffer_at(buffer, area, start_of(ports, number));
 }
 
 // The buffer with its rank as its place, if it is pending.
-fn rerank(slots: [Slot; 4], ports: u8, number: BufferNumber, slot: Slot, area: &mut [u8])
-    ensures { λ _. ⌜ now (area .exit) ≡ rankOver slots ports number slot (now (area .entry)) ⌝ }
+fn rerank(slots: [Slot; 4], ports: PortCount, number: BufferNumber, slot: Slot, area: &mut [u8])
+    ensures { λ _. ⌜ now (area .exit) ≡ rankOver slots (ports .0) number slot (now (area .entry)) ⌝ }
 {
     match slot {
         Slot::Empty => {}
@@ -124,13 +110,13 @@ fn rerank(slots: [Slot; 4], ports: u8, number: BufferNumber, slot: Slot, area: &
 // The start-split in buffer `number`, last in the order of acceptance: the slots are those of the area's buffers.
 pub fn store(
     slots: [Slot; 4],
-    ports: u8,
+    ports: PortCount,
     number: BufferNumber,
     split: StartSplit,
     payload: &[u8],
     area: &mut [u8],
 )
-    ensures { λ _. ⌜ now (area .exit) ≡ storeOver slots ports number split (now (payload .entry)) (now (area .entry)) ⌝ }
+    ensures { λ _. ⌜ now (area .exit) ≡ storeOver slots (ports .0) number split (now (payload .entry)) (now (area .entry)) ⌝ }
 {
     rerank(slots, ports, BufferNumber(0), slots[0], area);
     rerank(slots, ports, BufferNumber(1), slots[1], area);

@@ -7,6 +7,7 @@ use Rattle.port.specs.Claims.{PortClaims}
 use Rattle.port.proofs.Timers.{timer-kept}
 use Rattle.port.proofs.Bits.{bits-back}
 use Rattle.port.proofs.ChangeBits.{change-stays, cleared, none-set, others-kept, answers, unchanged}
+use Rattle.port.proofs.Named.{event-done}
 use Rattle.port.proofs.EnableChange.{enable-change}
 
 pub port-claims : PortClaims
@@ -16,6 +17,7 @@ port-claims =
       timer-kept = timer-kept;
       status-bits = λ p. rw (bits-back (statusLow p), bits-back (statusHigh p), bits-back (changeLow (p .changes)));
       event-answers = λ p e. answers p (eventRule e (p .overcurrent) (p .state));
+      event-done = event-done;
       refused-unchanged = λ p e. unchanged p (eventRule e (p .overcurrent) (p .state));
       change-stays = change-stays;
       change-cleared = λ b p. cleared b (p .changes);

@@ -7,6 +7,7 @@ use mathlib.Core.List.{List, [], _∷_, map}
 use mathlib.Core.Logic.{_↔_, _⊎_}
 use lib.Dec.{eqb}
 use Rattle.port.specs.declared.Speed.{Speed}
+use Rattle.port.specs.declared.Speed.the-variants.{Full}
 use Rattle.port.specs.declared.PortState.{PortState}
 use Rattle.port.specs.declared.PortState.the-variants.{NotConfigured, PoweredOff, Disconnected, Disabled, Resetting, Enabled, Suspended, Resuming}
 use Rattle.port.specs.declared.ChangeBit.{ChangeBit}
@@ -14,7 +15,7 @@ use Rattle.port.specs.declared.ChangeBit.the-variants.{Connection, Enabl
 use Rattle.port.specs.declared.Changes.{Changes}
 use Rattle.port.specs.declared.Port.{Port}
 use Rattle.port.specs.declared.LineEvent.{LineEvent}
-use Rattle.port.specs.declared.LineEvent.the-variants.{PortError}
+use Rattle.port.specs.declared.LineEvent.the-variants.{AttachLow, AttachFull, Detach, Chirp, Wake, PortError, OverCurrentOn, OverCurrentOff}
 use Rattle.port.specs.declared.ClearableFeature.the-variants.{Change}
 use Rattle.port.specs.Reaction.{newPort}
 use Rattle.port.specs.Events.{lineEvent}
@@ -45,6 +46,23 @@ changeBit Suspend c = c .suspend
 changeBit OverCurrent c = c .overcurrent
 changeBit Reset c = c .reset
 
+-- the states in which a line event is named
+abbrev pub NamedIn : LineEvent → PortState → Type 0
+-- attach (low or full): Disconnected
+NamedIn AttachLow s = s ≡ Disconnected
+NamedIn AttachFull s = s ≡ Disconnected
+-- detach: Disabled, Enabled, Suspended
+NamedIn Detach s = (v : Speed) × ((s ≡ Disabled v) ⊎ (s ≡ Enabled v) ⊎ (s ≡ Suspended v))
+-- chirp: Resetting at full speed
+NamedIn Chirp s = (t : ℕ) × (s ≡ Resetting Full t)
+-- wake: Suspended
+NamedIn Wake s = (v : Speed) × (s ≡ Suspended v)
+-- port error: Enabled
+NamedIn PortError s = (v : Speed) × (s ≡ Enabled v)
+-- over-current on or off: any configured state
+NamedIn OverCurrentOn s = ¬ (s ≡ NotConfigured)
+NamedIn OverCurrentOff s = ¬ (s ≡ NotConfigured)
+
 -- a port error on an Enabled port, at any speed
 pub record ErrorWhileEnabled (p : Port) (i : Input) : Type 0 where
   pub port-error : i ≡ event PortError
@@ -63,6 +81,8 @@ pub record PortClaims : Type 0 where
   pub status-bits : (p : Port) → map (bitsOf 8) (statusBytes p) ≡ statusBits p
   -- 8 not in this state: nothing changed
   pub event-answers : (p : Port) (e : LineEvent) → (lineEvent p e .number ≡ 0) ⊎ (lineEvent p e .number ≡ 8)
+  -- Events elsewhere than named answer 8.
+  pub event-done : (p : Port) (e : LineEvent) → (lineEvent p e .number ≡ 0) ↔ NamedIn e (p .state)
   pub refused-unchanged : (p : Port) (e : LineEvent) → lineEvent p e .number ≡ 8 → lineEvent p e .port ≡ p
   -- Change bits stay until cleared by request or bus reset
   pub change-stays : (b : ChangeBit) (p : Port) (i : Input) → ¬ (i ≡ clearFeature (Change b)) → ¬ (i ≡ busReset)

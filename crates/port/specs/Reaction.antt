@@ -9,8 +9,8 @@ use Rattle.port.specs.declared.ChangeBit.{ChangeBit}
 use Rattle.port.specs.declared.ChangeBit.the-variants.{Connection, Enable, Suspend, OverCurrent, Reset}
 use Rattle.port.specs.declared.Changes.{Changes}
 use Rattle.port.specs.declared.Port.{Port}
-use Rattle.port.specs.declared.EventAnswer.{EventAnswer}
-use Rattle.port.specs.declared.EventAnswer.the-variants.{Done, NotInThisState}
+use Rattle.port.specs.declared.StepAnswer.{StepAnswer}
+use Rattle.port.specs.declared.StepAnswer.the-variants.{Done, NotInThisState}
 use Rattle.port.specs.declared.Stepped.{Stepped}
 
 -- what a rule says
@@ -33,12 +33,12 @@ abbrev pub marked : List ChangeBit → Changes → Changes
 marked [] c = c
 marked (b ∷ bs) c = mark b (marked bs c)
 
--- the number of document 01 for each answer to a line event: 0 done, 8 not in this state
-abbrev pub numberOf : EventAnswer → ℕ
+-- the number of document 01 for each answer to a step: 0 done, 8 not in this state
+abbrev pub numberOf : StepAnswer → ℕ
 numberOf Done = 0
 numberOf NotInThisState = 8
 
--- the port as an event leaves it, and the number that is answered
+-- the port as a step leaves it, and the number that is answered
 pub record Answered : Type 0 where
   pub port : Port
   pub number : ℕ
@@ -47,10 +47,14 @@ pub record Answered : Type 0 where
 abbrev pub answered : Stepped → Answered
 answered r = record { port = r .port; number = numberOf (r .answer) }
 
+-- done: answer 0
+abbrev pub doneWith : Port → Answered
+doneWith p = record { port = p; number = 0 }
+
 -- refused, 8: nothing changed; done, 0: state as the rule says
 abbrev pub reacted : Port → Reaction → Answered
 reacted p refused = record { port = p; number = 8 }
-reacted p (done s l bs) = record { port = record { state = s; overcurrent = l; changes = marked bs (p .changes) }; number = 0 }
+reacted p (done s l bs) = doneWith (record { state = s; overcurrent = l; changes = marked bs (p .changes) })
 
 -- a rule at a port
 abbrev pub ruled : (Bool → PortState → Reaction) → Port → Answered

@@ -3,7 +3,7 @@ ghost use mathlib.Core.Path.{_≡_};
 ghost use mathlib.Core.Bool.{false};
 ghost use mathlib.Core.List.{[], _∷_};
 ghost use Prim.Native.Nat.{_≤_};
-ghost use Rattle.port.specs.Reaction.{newPort, answered, ruled};
+ghost use Rattle.port.specs.Reaction.{newPort, answered, doneWith, ruled};
 ghost use Rattle.port.specs.Events.{
   attach,
   detach,
@@ -49,6 +49,9 @@ ghost use Rattle.port.specs.Mistakes.{EnableMistakesShutOut};
 
 // A port's number, counted from 1.
 pub struct PortNumber(pub u32);
+
+// How many ports a hub has.
+pub struct PortCount(pub u8);
 
 pub enum Speed {
     Low,
@@ -116,14 +119,16 @@ pub enum ClearableFeature {
     Change(ChangeBit),
 }
 
-pub enum EventAnswer {
+// What a step of a port answers; only a line event can be refused.
+pub enum StepAnswer {
     Done,
     NotInThisState,
 }
 
+// The next port with the answer.
 pub struct Stepped {
     pub port: Port,
-    pub answer: EventAnswer,
+    pub answer: StepAnswer,
 }
 
 impl Port {
@@ -161,87 +166,71 @@ impl Port {
     }
 
     // One millisecond.
-    pub fn tick(self) -> Port
-        ensures { λ r. ⌜ r ≡ ticked self ⌝ }
+    pub fn tick(self) -> Stepped
+        ensures { λ r. ⌜ answered r ≡ doneWith (ticked self) ⌝ }
     {
         let state = self.state;
         let mut changes = self.changes;
         match state {
             PortState::Resetting(speed, ticks) => if ticks < 14 {
-                Port {
-                    state: PortState::Resetting(speed, ticks + 1),
-                    overcurrent: self.overcurrent,
+                done(
+                    PortState::Resetting(speed, ticks + 1),
+                    self.overcurrent,
                     changes,
-                }
+                )
             } else {
                 changes.reset = true;
-                Port {
-                    state: PortState::Enabled(speed),
-                    overcurrent: self.overcurrent,
-                    changes,
-                }
+                done(PortState::Enabled(speed), self.overcurrent, changes)
             },
             PortState::Resuming(speed, ticks) => if ticks < 21 {
-                Port {
-                    state: PortState::Resuming(speed, ticks + 1),
-                    overcurrent: self.overcurrent,
+                done(
+                    PortState::Resuming(speed, ticks + 1),
+                    self.overcurrent,
                     changes,
-                }
+                )
             } else {
                 changes.suspend = true;
-                Port {
-                    state: PortState::Enabled(speed),
-                    overcurrent: self.overcurrent,
-                    changes,
-                }
+                done(PortState::Enabled(speed), self.overcurrent, changes)
             },
-            _ => self,
+            _ => done_with(self),
         }
     }
 
-    pub fn set_feature(self, feature: SettableFeature) -> Port
-        ensures { λ r. ⌜ r ≡ featureSet self feature ⌝ }
+    pub fn set_feature(self, feature: SettableFeature) -> Stepped
+        ensures { λ r. ⌜ answered r ≡ doneWith (featureSet self feature) ⌝ }
     {
         match feature {
-            SettableFeature::Suspend => self.set_suspend(),
-            SettableFeature::Reset => self.set_reset(),
-            SettableFeature::Power => self.set_power(),
+            SettableFeature::Suspend => done_with(self.set_suspend()),
+            SettableFeature::Reset => done_with(self.set_reset()),
+            SettableFeature::Power => done_with(self.set_power()),
         }
     }
 
-    pub fn clear_feature(self, feature: ClearableFeature) -> Port
-        ensures { λ r. ⌜ r ≡ featureCleared self feature ⌝ }
+    pub fn clear_feature(self, feature: ClearableFeature) -> Stepped
+        ensures { λ r. ⌜ answered r ≡ doneWith (featureCleared self feature) ⌝ }
     {
         match feature {
-            ClearableFeature::Enable => self.clear_enable(),
-            ClearableFeature::Suspend => self.clear_suspend(),
-            ClearableFeature::Power => self.clear_power(),
-            ClearableFeature::Change(bit) => self.clear_change(bit),
+            ClearableFeature::Enable => done_with(self.clear_enable()),
+            ClearableFeature::Suspend => done_with(self.clear_suspend()),
+            ClearableFeature::Power => done_with(self.clear_power()),
+            ClearableFeature::Change(bit) => done_with(self.clear_change(bit)),
         }
     }
 
     // SetConfiguration 1.
-    pub fn configure(self) -> Port
-        ensures { λ r. ⌜ r ≡ configured self ⌝ }
+    pub fn configure(self) -> Stepped
+        ensures { λ r. ⌜ answered r ≡ doneWith (configured self) ⌝ }
     {
         let changes = self.changes;
-        Port {
-            state: PortState::PoweredOff,
-            overcurrent: self.overcurrent,
-            changes,
-        }
+        done(PortState::PoweredOff, self.overcurrent, changes)
     }
 
     // SetConfiguration 0.
-    pub fn unconfigure(self) -> Port
-        ensures { λ r. ⌜ r ≡ unconfigured self ⌝ }
+    pub fn unconfigure(self) -> Stepped
+        ensures { λ r. ⌜ answered r ≡ doneWith (unconfigured self) ⌝ }
     {
         let changes = self.changes;
-        Port {
-            state: PortState::NotConfigured,
-            overcurrent: false,
-            changes,
-        }
+        done(PortState::NotConfigured, false, changes)
     }
 
     // The four bytes of GetPortStatus.
@@ -405,15 +394,22 @@ impl Port {
 
 // Answer 0: the next state, over-current level and change bits.
 fn done(state: PortState, level: bool, changes: Changes) -> Stepped
-    ensures { λ r. ⌜ answered r ≡ record { port = record { state = state; overcurrent = level; changes = changes }; number = 0 } ⌝ }
+    ensures { λ r. ⌜ answered r ≡ doneWith (record { state = state; overcurrent = level; changes = changes }) ⌝ }
+{
+    done_with(Port {
+        state,
+        overcurrent: level,
+        changes,
+    })
+}
+
+// Answer 0: the next port.
+fn done_with(port: Port) -> Stepped
+    ensures { λ r. ⌜ answered r ≡ doneWith port ⌝ }
 {
     Stepped {
-        port: Port {
-            state,
-            overcurrent: level,
-            changes,
-        },
-        answer: EventAnswer::Done,
+        port,
+        answer: StepAnswer::Done,
     }
 }
 
@@ -423,7 +419,7 @@ fn refused(port: Port) -> Stepped
 {
     Stepped {
         port,
-        answer: EventAnswer::NotInThisState,
+        answer: StepAnswer::NotInThisState,
     }
 }
 

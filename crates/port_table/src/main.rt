@@ -3,12 +3,12 @@ use libc::STDOUT_FILENO;
 use port::ChangeBit;
 use port::Changes;
 use port::ClearableFeature;
-use port::EventAnswer;
 use port::LineEvent;
 use port::Port;
 use port::PortState;
 use port::SettableFeature;
 use port::Speed;
+use port::StepAnswer;
 use port::Stepped;
 
 fn say(text: &[u8]) {
@@ -117,10 +117,10 @@ fn say_input(input: u64) {
     }
 }
 
-fn say_answer(answer: EventAnswer) {
+fn say_answer(answer: StepAnswer) {
     match answer {
-        EventAnswer::Done => say(b"0"),
-        EventAnswer::NotInThisState => say(b"8"),
+        StepAnswer::Done => say(b"0"),
+        StepAnswer::NotInThisState => say(b"8"),
     }
 }
 
@@ -153,16 +153,8 @@ fn state_of(number: u64) -> PortState {
     }
 }
 
-// What is no line event always answers 0.
-fn done(port: Port) -> Stepped {
-    Stepped {
-        port,
-        answer: EventAnswer::Done,
-    }
-}
-
 fn clear_bit(port: Port, bit: ChangeBit) -> Stepped {
-    done(port.clear_feature(ClearableFeature::Change(bit)))
+    port.clear_feature(ClearableFeature::Change(bit))
 }
 
 fn after(port: Port, input: u64) -> Stepped {
@@ -175,20 +167,20 @@ fn after(port: Port, input: u64) -> Stepped {
         5 => port.line_event(LineEvent::PortError),
         6 => port.line_event(LineEvent::OverCurrentOn),
         7 => port.line_event(LineEvent::OverCurrentOff),
-        8 => done(port.tick()),
-        9 => done(port.set_feature(SettableFeature::Suspend)),
-        10 => done(port.set_feature(SettableFeature::Reset)),
-        11 => done(port.set_feature(SettableFeature::Power)),
-        12 => done(port.clear_feature(ClearableFeature::Enable)),
-        13 => done(port.clear_feature(ClearableFeature::Suspend)),
-        14 => done(port.clear_feature(ClearableFeature::Power)),
+        8 => port.tick(),
+        9 => port.set_feature(SettableFeature::Suspend),
+        10 => port.set_feature(SettableFeature::Reset),
+        11 => port.set_feature(SettableFeature::Power),
+        12 => port.clear_feature(ClearableFeature::Enable),
+        13 => port.clear_feature(ClearableFeature::Suspend),
+        14 => port.clear_feature(ClearableFeature::Power),
         15 => clear_bit(port, ChangeBit::Connection),
         16 => clear_bit(port, ChangeBit::Enable),
         17 => clear_bit(port, ChangeBit::Suspend),
         18 => clear_bit(port, ChangeBit::OverCurrent),
         19 => clear_bit(port, ChangeBit::Reset),
-        20 => done(port.unconfigure()),
-        _ => done(port.configure()),
+        20 => port.unconfigure(),
+        _ => port.configure(),
     }
 }
 

@@ -5,7 +5,7 @@ use mathlib.Core.Bool.{Bool, true, false, cond, _&&_, true≢false}
 use mathlib.Core.List.{List, [], _∷_}
 use native.Mathlib.Omega.{arith}
 use lib.ListN.{length, getD, set, drop, length-set, getD-replicate}
-use lib.Seq.{getD-set-same, getD-set-other}
+use lib.Seq.{set-getD, getD-set-same, getD-set-other}
 use lib.Dec.{leb}
 use borrow.Author.Tests.{leb-true, le-leb}
 use Rattle.port.specs.declared.Port.{Port}
@@ -66,6 +66,15 @@ set-read ps n p l h =
     at-port (withPort ps n p) n (h .0) (h .1)
     ∙ ap (λ (qs : List Port). getD qs (n .0 - 1) newPort) (set-port ps n p (h .0) (h .1))
     ∙ getD-set-same ps (n .0 - 1) p newPort (omega arith)
+
+-- a port that is put back as it stood changes nothing
+pub put-back : (ps : List Port) (n : PortNumber) → withPort ps n (portAt ps n) ≡ ps
+unfolding portAt withPort
+put-back ps n =
+    elim (oneToSeven (n .0)) as (λ b. cond b (set ps (n .0 - 1) (cond b (getD ps (n .0 - 1) newPort) newPort)) ps ≡ ps) [
+      | true ↦ set-getD ps (n .0 - 1) newPort
+      | false ↦ refl
+    ]
 
 set-length : (ps : List Port) (n : PortNumber) (p : Port) → length (withPort ps n p) ≡ length ps
 unfolding withPort

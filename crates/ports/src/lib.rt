@@ -3,13 +3,16 @@ ghost use mathlib.Core.Path.{_≡_};
 ghost use mathlib.Core.Bool.{_&&_};
 ghost use Prim.Native.Nat.{_≤_};
 ghost use lib.Dec.{leb};
+ghost use Rattle.port.specs.Reaction.{answered, doneWith};
 ghost use Rattle.port.specs.Status.{bit, hasChange};
 ghost use Rattle.ports.specs.Ports.{newPorts, portAt, withPort};
 ghost use Rattle.ports.specs.Sweep.{sweptBy, swept};
 ghost use Rattle.ports.specs.Bitmap.{bitmapOf};
 ghost use Rattle.ports.specs.Claims.{PortsClaims};
 use port::Port;
+use port::PortCount;
 use port::PortNumber;
+use port::Stepped;
 
 // What is done to every port.
 pub enum Sweep {
@@ -56,25 +59,27 @@ pub fn with_port(ports: [Port; 7], n: PortNumber, port: Port) -> [Port; 7]
 }
 
 // A sweep over the first `count` ports.
-pub fn sweep_first(ports: [Port; 7], count: u8, what: Sweep) -> [Port; 7]
-    ensures { λ r. ⌜ r ≡ swept what count ports ⌝ }
+pub fn sweep_first(ports: [Port; 7], count: PortCount, what: Sweep) -> [Port; 7]
+    ensures { λ r. ⌜ r ≡ swept what (count .0) ports ⌝ }
 {
+    let used = count.0;
     let mut next = ports;
     let mut i: u8 = 0;
     while i < 7 {
-        if count <= i {
+        if used <= i {
             return next;
         }
-        let port = next[i as usize];
-        next[i as usize] = step(port, what);
+        let stepped = step(next[i as usize], what);
+        let port = stepped.port;
+        next[i as usize] = port;
         i += 1;
     }
     next
 }
 
 // A sweep's step at one port.
-fn step(port: Port, what: Sweep) -> Port
-    ensures { λ r. ⌜ r ≡ sweptBy what port ⌝ }
+fn step(port: Port, what: Sweep) -> Stepped
+    ensures { λ r. ⌜ answered r ≡ doneWith (sweptBy what port) ⌝ }
 {
     match what {
         Sweep::Tick => port.tick(),
@@ -84,8 +89,8 @@ fn step(port: Port, what: Sweep) -> Port
 }
 
 // The status change bitmap over the first `count` ports: bit p for port p, bit 0 zero.
-pub fn bitmap(ports: [Port; 7], count: u8) -> u8
-    ensures { λ r. ⌜ r ≡ bitmapOf count ports ⌝ }
+pub fn bitmap(ports: [Port; 7], count: PortCount) -> u8
+    ensures { λ r. ⌜ r ≡ bitmapOf (count .0) ports ⌝ }
 {
     let p1 = ports[0];
     let p2 = ports[1];
@@ -94,20 +99,20 @@ pub fn bitmap(ports: [Port; 7], count: u8) -> u8
     let p5 = ports[4];
     let p6 = ports[5];
     let p7 = ports[6];
-    2 * flag(p1, 1, count)
-        + 4 * flag(p2, 2, count)
-        + 8 * flag(p3, 3, count)
-        + 16 * flag(p4, 4, count)
-        + 32 * flag(p5, 5, count)
-        + 64 * flag(p6, 6, count)
-        + 128 * flag(p7, 7, count)
+    2 * flag(p1, PortNumber(1), count)
+        + 4 * flag(p2, PortNumber(2), count)
+        + 8 * flag(p3, PortNumber(3), count)
+        + 16 * flag(p4, PortNumber(4), count)
+        + 32 * flag(p5, PortNumber(5), count)
+        + 64 * flag(p6, PortNumber(6), count)
+        + 128 * flag(p7, PortNumber(7), count)
 }
 
 // 1 where this port, port n, is one of the first `count` and has a change bit set, else 0.
-fn flag(port: Port, n: u8, count: u8) -> u8
-    ensures { λ r. ⌜ (r ≡ bit (leb n count && hasChange (port .changes))) × (r ≤ 1) ⌝ }
+fn flag(port: Port, n: PortNumber, count: PortCount) -> u8
+    ensures { λ r. ⌜ (r ≡ bit (leb (n .0) (count .0) && hasChange (port .changes))) × (r ≤ 1) ⌝ }
 {
-    if logic::both(n <= count, port.changed()) {
+    if logic::both(n.0 <= count.0 as u32, port.changed()) {
         1
     } else {
         0

@@ -21,7 +21,7 @@ use Rattle.request.specs.declared.Request.the-variants.{Wrong, SetConfig
 use Rattle.request.specs.Setup.{setupOf, setupBytes}
 use Rattle.request.specs.Request.{requestOf}
 
--- Features carry the status bit's number: 1 enable, 2 suspend, 4 reset, 8 power
+-- Features carry the status bit's number: 2 suspend, 4 reset, 8 power
 abbrev pub settableNumber : SettableFeature → ℕ
 settableNumber settable.Suspend = 2
 settableNumber settable.Reset = 4
@@ -35,6 +35,7 @@ changeNumber change.Suspend = 18
 changeNumber change.OverCurrent = 19
 changeNumber change.Reset = 20
 
+-- Features carry the status bit's number: 1 enable, 2 suspend, 8 power
 abbrev pub clearableNumber : ClearableFeature → ℕ
 clearableNumber clearable.Enable = 1
 clearableNumber clearable.Suspend = 2

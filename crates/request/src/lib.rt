@@ -12,13 +12,14 @@ ghost use Rattle.request.specs.Values.{
   pipeIn,
 };
 ghost use Rattle.request.specs.Table.{kindOf, isKnown, valueFits, isPort, indexFits, lengthFits};
-ghost use Rattle.request.specs.Request.{meaning, requestOf};
+ghost use Rattle.request.specs.Request.{portIn, meaning, requestOf};
 ghost use Rattle.request.specs.Claims.{RequestClaims};
 ghost use Rattle.request.specs.Cases.{CasesHold};
 use buffer::DeviceAddress;
 use buffer::Direction;
 use port::ChangeBit;
 use port::ClearableFeature;
+use port::PortCount;
 use port::PortNumber;
 use port::SettableFeature;
 
@@ -199,10 +200,17 @@ fn pipe_in(value: u16) -> Pipe
 }
 
 // With the high byte set, an index is above every u8.
-fn is_port(ports: u8, index: u16) -> bool
-    ensures { λ r. ⌜ r ≡ isPort ports index ⌝ }
+fn is_port(ports: PortCount, index: u16) -> bool
+    ensures { λ r. ⌜ r ≡ isPort (ports .0) index ⌝ }
 {
-    logic::both(1 <= index, index <= ports as u16)
+    logic::both(1 <= index, index <= ports.0 as u16)
+}
+
+// The port that wIndex names, once it is found to be one of the hub's.
+fn port_in(index: u16) -> PortNumber
+    ensures { λ r. ⌜ r ≡ portIn index ⌝ }
+{
+    PortNumber(index as u32)
 }
 
 impl Kind {
@@ -242,8 +250,8 @@ impl Kind {
         }
     }
 
-    fn index_fits(self, ports: u8, index: u16) -> bool
-        ensures { λ r. ⌜ r ≡ indexFits ports self index ⌝ }
+    fn index_fits(self, ports: PortCount, index: u16) -> bool
+        ensures { λ r. ⌜ r ≡ indexFits (ports .0) self index ⌝ }
     {
         match self {
             Kind::Unknown => false,
@@ -282,17 +290,19 @@ impl Kind {
     fn meaning(self, value: u16, index: u16, length: u16) -> Request
         ensures { λ r. ⌜ r ≡ meaning self value index length ⌝ }
     {
-        let port = PortNumber(index as u32);
         match self {
             Kind::Unknown => Request::Wrong(Fault::TypeOrCode),
             Kind::SetConfiguration => Request::SetConfiguration(value == 1),
             Kind::GetConfiguration => Request::GetConfiguration,
             Kind::GetHubDescriptor => Request::GetHubDescriptor(length),
             Kind::GetHubStatus => Request::GetHubStatus,
-            Kind::GetPortStatus => Request::GetPortStatus(port),
+            Kind::GetPortStatus => Request::GetPortStatus(port_in(index)),
             Kind::ClearHubFeature => Request::ClearHubFeature,
-            Kind::ClearPortFeature => Request::ClearPortFeature(port, clearable_of(value)),
-            Kind::SetPortFeature => Request::SetPortFeature(port, settable_of(value)),
+            Kind::ClearPortFeature => Request::ClearPortFeature(
+                port_in(index),
+                clearable_of(value),
+            ),
+            Kind::SetPortFeature => Request::SetPortFeature(port_in(index), settable_of(value)),
             Kind::ClearTTBuffer => Request::ClearTTBuffer(pipe_in(value)),
             Kind::ResetTT => Request::ResetTT,
         }
@@ -300,8 +310,8 @@ impl Kind {
 }
 
 // What the setup bytes ask for; `ports` is N, the number of the hub's ports.
-pub fn read(setup: [u8; 8], ports: u8) -> Request
-    ensures { λ r. ⌜ r ≡ requestOf ports setup ⌝ }
+pub fn read(setup: [u8; 8], ports: PortCount) -> Request
+    ensures { λ r. ⌜ r ≡ requestOf (ports .0) setup ⌝ }
 {
     let s = setup_of(setup);
     let kind = kind_of(s.requesttype, s.code);

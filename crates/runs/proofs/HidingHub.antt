@@ -38,25 +38,10 @@ use Rattle.hub.specs.Requests.{keyed, setFeature, clearFeature, byRequest, serv
 use Rattle.hub.specs.Rules.{polled, completedBy, launchedBy}
 use Rattle.hub.specs.Step.{within, roomy, heard, fitting, served, firstRefusal, step}
 use Rattle.runs.specs.History.{Asks, nothing, starts, completes, launches, delivers, clears, resets, empties, keyOf, requestAsks, asks, answerKey}
+use Rattle.runs.specs.Altered.{withBytes}
 use Rattle.runs.specs.Demand3.{Marks}
 use Rattle.runs.proofs.Steps.{start-key, complete-key}
 use Rattle.runs.proofs.Hiding.{blank, length-blank, blank-nil, blankP, blank-content, hideT, shown, marked, hide-start, hide-complete, hide-launch, hide-deliver, hide-clear, hide-reset}
-
--- the answer with other bytes
-abbrev pub with-bytes : Answer → List ℕ → Answer
-with-bytes a b =
-    record {
-      number = a .number;
-      pid = a .pid;
-      transfer = a .transfer;
-      lane = a .lane;
-      address = a .address;
-      endpoint = a .endpoint;
-      direction = a .direction;
-      lowspeed = a .lowspeed;
-      toggle = a .toggle;
-      bytes = b;
-    }
 
 module _ (m : Marks) where
   abbrev pub hideH : Hub → Hub
@@ -85,7 +70,7 @@ module _ (m : Marks) where
   excepted empties a = false
 
   abbrev pub hideA : Asks → Answer → Answer
-  hideA x a = with-bytes a (blank (excepted x a) (a .bytes))
+  hideA x a = withBytes a (blank (excepted x a) (a .bytes))
 
   abbrev pub hideO : Asks → Outcome → Outcome
   hideO x o = record { next = hideH (o .next); answer = hideA x (o .answer) }

@@ -53,7 +53,7 @@ unfolding bench newFits runFrom SameCalls SameAnswers padded payloadOf sameKey n
 without-lanes claim =
     let calls : List ℕ → List Call = λ x. configure ∷ one-5 ∷ Launch 64 ∷ Deliver 3 x ∷ complete 5 1 ∷ [] in
     let answers =
-    claim One bench (calls (1 ∷ [])) (calls (2 ∷ []))
+    claim One bench bench (calls (1 ∷ [])) (calls (2 ∷ [])) refl
     (same _, (same _, (same _, (deliver 3 (1 ∷ []) (2 ∷ []) (record { key = keyOf One 5 1 direction.In; place = some 1 }) refl refl refl, (same _, tt))))) in
     let z : _≡_ {A = ℕ} 1 2 = ap (λ (l : List ℕ). getD l 0 0) (answers .1 .1 .1 .1 .0 .bytes (λ e. false≢true e)) in
     omega (arith, z)

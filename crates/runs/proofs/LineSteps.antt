@@ -15,6 +15,8 @@ use Rattle.ports.specs.Sweep.{swept}
 use Rattle.ports.specs.Bitmap.{bitmapOf}
 use Rattle.buffer.specs.declared.Lane.{Lane}
 use Rattle.buffer.specs.declared.Key.{Key}
+use Rattle.buffer.specs.declared.Pid.{Pid}
+use Rattle.buffer.specs.declared.Pid.the-variants as pid
 use Rattle.buffer.specs.declared.StartSplit.{StartSplit}
 use Rattle.buffer.specs.declared.DeviceResult.{DeviceResult}
 use Rattle.buffer.specs.declared.Slot.{Slot}
@@ -49,11 +51,12 @@ use Rattle.translator.specs.CompleteSplit.{completed, completeAt, completeSplit
 use Rattle.translator.specs.Launch.{launch}
 use Rattle.translator.specs.Deliver as delivering
 use Rattle.translator.specs.Clear.{clearAt, clearBuffer}
-use Rattle.translator.specs.Answers.{isRefusal, startNumber, launchNumber, deliverNumber}
+use Rattle.translator.specs.Answers.{isRefusal, pidNumber, startNumber, launchNumber, deliverNumber}
 use Rattle.translator.proofs.At.{inside, length-ranked}
 use Rattle.translator.proofs.Finding.{FindSays, find-says, PermittedSays, permitted-says}
 use Rattle.translator.proofs.Kept.{in-use, start-le}
 use Rattle.translator.proofs.Calls.{LaunchedAs, launched-as, refused-same}
+use Rattle.numbers.specs.Written.{directionNumber}
 use Rattle.numbers.specs.Named.{laneFrom, isResult, resultFrom}
 use Rattle.numbers.specs.Split.{splitNamed, splitFrom, keyFrom}
 use Rattle.numbers.specs.Claims.{SplitHas}
@@ -70,20 +73,25 @@ use Rattle.hub.specs.Step.{within, served, step}
 use Rattle.hub.proofs.Order.{by-checks}
 use Rattle.hub.proofs.Valid.{completed-next, launched-next}
 use Rattle.runs.specs.History.{Event, History, Asks, nothing, starts, completes, launches, delivers, clears, resets, empties, asks, isOpen, stores, lastStored, For, lastFor, isAt, isFor}
-use Rattle.runs.specs.Order.{pendingAfter, isPendingAt, Ordered, AllOrdered, LaunchOrder}
+use Rattle.runs.specs.Order.{pendingAfter, isPendingAt, Directed, Earliest, NonePending, EightIfOccupied, Ordered, AllOrdered, LaunchOrder}
 use Rattle.runs.specs.Machine.{newHubOf, rules, runFrom}
 use Rattle.runs.proofs.Histories.{one-key, Refused, silent-refused, silent-nothing, complete-stores, keeps-repeat, keeps-launch, keeps-deliver}
 use Rattle.runs.proofs.Invariant.{Good, LowOk, RunsFor, held-ranked, free-ranked, inv-ranked}
 use Rattle.runs.proofs.Kept.{ev, Tied}
 use Rattle.runs.proofs.Steps.{start-key, complete-key, AsksFor, request-asks, step-kept}
 use Rattle.runs.proofs.Line.{splitIn, placeIn, keyIn, Waits, waits-holds, waits-placed, callOf, Stands, Known, Line, line-ranked, line-quiet, line-left, line-gone, line-into, line-empty, line-reset, ranked-below}
+use Rattle.runs.proofs.Occupying.{OfLaunch, SideOf, step-side, step-eight, new-side}
 use Rattle.runs.proofs.Theorems.{new-tied}
+
+-- of a launch: it gives the earliest that is pending, and is answered 3 only where none is
+abbrev InOrder : Asks → Answer → History → Type 0
+InOrder x a h = OfLaunch ((a .number ≡ 1 → Earliest a h) × (a .number ≡ 3 → NonePending h)) x
 
 -- what a call leaves is in line with the history, and a launch is in order
 abbrev pub InLine : History → Call → List Buffer → Answer → Type 0
-InLine h c bs a = Line (ev c a ∷ h) bs × Ordered (asks c) a h
+InLine h c bs a = Line (ev c a ∷ h) bs × InOrder (asks c) a h
 
-ordered-else : (h : History) (x : Asks) (a : Answer) → eqb (a .number) 1 ≡ false → eqb (a .number) 3 ≡ false → Ordered x a h
+ordered-else : (h : History) (x : Asks) (a : Answer) → eqb (a .number) 1 ≡ false → eqb (a .number) 3 ≡ false → InOrder x a h
 ordered-else h nothing a f g = tt
 ordered-else h (starts k) a f g = tt
 ordered-else h (completes k) a f g = tt
@@ -92,6 +100,22 @@ ordered-else h (delivers r l) a f g = tt
 ordered-else h (clears k) a f g = tt
 ordered-else h (resets z) a f g = tt
 ordered-else h empties a f g = tt
+
+-- with 8
+joined : (h : History) (x : Asks) (a : Answer) → InOrder x a h → OfLaunch (EightIfOccupied a h) x → Ordered x a h
+joined h nothing a o e = tt
+joined h (starts k) a o e = tt
+joined h (completes k) a o e = tt
+joined h launches a o e = (o .0, o .1, e)
+joined h (delivers r l) a o e = tt
+joined h (clears k) a o e = tt
+joined h (resets z) a o e = tt
+joined h empties a o e = tt
+
+directed : (p : Pid) → Directed (pidNumber p) (directionNumber (key.directionOf p))
+directed pid.Out = (λ e. absurd (omega (arith, e)), λ n. refl)
+directed pid.In = (λ e. refl, λ n. absurd (n refl))
+directed pid.Setup = (λ e. absurd (omega (arith, e)), λ n. refl)
 
 pending-refused : (x : Asks) (a : Answer) (h : History) (s : ℕ) (w : Bool) → eqb (a .number) 0 ≡ false → pendingAfter x a h s w ≡ w
 unfolding pendingAfter stores
@@ -113,7 +137,7 @@ module _ (h : History) (t : Translator) (tied : Tied h t) (line : Line h (t .buf
   nothing-line : (c : Call) (a : Answer) → asks c ≡ nothing → InLine h c (t .buffers) a
   unfolding isPendingAt pendingAfter
   nothing-line c a q =
-      (line-quiet h (ev c a) (t .buffers) line (λ k. silent-nothing h (ev c a) q .keeps .stored-kept k tt) (λ s. rw q), subst (λ (x : Asks). Ordered x a h) (sym q) tt)
+      (line-quiet h (ev c a) (t .buffers) line (λ k. silent-nothing h (ev c a) q .keeps .stored-kept k tt) (λ s. rw q), subst (λ (x : Asks). InOrder x a h) (sym q) tt)
 
   -- ---- start-split
 
@@ -155,7 +179,7 @@ module _ (h : History) (t : Translator) (tied : Tied h t) (line : Line h (t .buf
   start-line c s l q says f = (
     subst (λ (x : Bool). Line (ev c (plainAnswer (startNumber (cond x by-choice outside .answer))) ∷ h) (cond x by-choice outside .next .buffers)) (sym f)
         (start-by c s l q says (start-le s (length l) f) (permitted (t .count) (key.keyOf s) (take (t .count) (t .buffers))) (permitted-says (t .count) (key.keyOf s) (t .count) (t .buffers))),
-    subst (λ (x : Asks). Ordered x (plainAnswer (startNumber (startSplit t s l .answer))) h) (sym q) tt,
+    subst (λ (x : Asks). InOrder x (plainAnswer (startNumber (startSplit t s l .answer))) h) (sym q) tt,
   )
     where
       by-choice : Started
@@ -172,7 +196,7 @@ module _ (h : History) (t : Translator) (tied : Tied h t) (line : Line h (t .buf
 
   complete-line : (c : Call) (a : Answer) (k : Key) → asks c ≡ completes k → InLine h c (completeSplit t k .next .buffers) a
   unfolding completeSplit isPendingAt pendingAfter
-  complete-line c a k q = (go (find (holds k) (take (t .count) (t .buffers))) (find-says (holds k) (t .count) (t .buffers)), subst (λ (x : Asks). Ordered x a h) (sym q) tt)
+  complete-line c a k q = (go (find (holds k) (take (t .count) (t .buffers))) (find-says (holds k) (t .count) (t .buffers)), subst (λ (x : Asks). InOrder x a h) (sym q) tt)
     where
       slot : (n : BufferNumber) → n .0 < length (t .buffers) → (s : Slot) → at (t .buffers) (n .0) .slot ≡ s → Line (ev c a ∷ h) (completed t n (at (t .buffers) (n .0) .payload) s .next .buffers)
       slot n here Empty e = same-stored c a k q
@@ -198,8 +222,8 @@ module _ (h : History) (t : Translator) (tied : Tied h t) (line : Line h (t .buf
       p : Payload
       p = launch t .payload
 
-      order-of : (a : Answer) → Ordered launches a h → Ordered (asks c) a h
-      order-of a o = subst (λ (x : Asks). Ordered x a h) (sym q) o
+      order-of : (a : Answer) → InOrder launches a h → InOrder (asks c) a h
+      order-of a o = subst (λ (x : Asks). InOrder x a h) (sym q) o
 
       refused : (a : LaunchAnswer) → launch t .answer ≡ a → isRefusal (launchNumber a) ≡ true → launch t .next .buffers ≡ t .buffers
       refused a e r = ap (λ (u : Translator). u .buffers) (refused-same .launched t (ap (λ (x : LaunchAnswer). isRefusal (launchNumber x)) e ∙ r))
@@ -219,7 +243,7 @@ module _ (h : History) (t : Translator) (tied : Tied h t) (line : Line h (t .buf
       )
       go (Launches s) e g = (
         subst (Line (ev c a ∷ h)) (sym (ap (λ (u : Translator). u .buffers) (g .next))) (launch-quiet c a q),
-        order-of a (λ _. record { place = x .place; pending = x .pending; earliest = first; gives = x .asked ∙ is }, λ y. absurd (omega (arith, y))),
+        order-of a (λ _. record { place = x .place; pending = x .pending; earliest = first; gives = x .asked ∙ is; directed = directed (s .pid) }, λ y. absurd (omega (arith, y))),
       )
         where
           a : Answer
@@ -260,7 +284,7 @@ module _ (h : History) (t : Translator) (tied : Tied h t) (line : Line h (t .buf
   unfolding delivering.deliver isPendingAt pendingAfter
   deliver-line c r l q f = (
     subst (λ (x : Bool). Said (cond x (delivering.deliverBy t r l (t .low)) (delivering.undelivered t deliver.Outside))) (sym f) (by-low (t .low) (tied .inv .low-ok)),
-    subst (λ (x : Asks). Ordered x (plainAnswer (deliverNumber (delivering.deliver t r l .answer))) h) (sym q) tt,
+    subst (λ (x : Asks). InOrder x (plainAnswer (deliverNumber (delivering.deliver t r l .answer))) h) (sym q) tt,
   )
     where
       Said : Delivered → Type 0
@@ -322,7 +346,7 @@ module _ (h : History) (t : Translator) (tied : Tied h t) (line : Line h (t .buf
 
   clear-line : (c : Call) (k : Key) → asks c ≡ clears k → InLine h c (clearBuffer t k .buffers) (plainAnswer 0)
   unfolding clearBuffer isPendingAt pendingAfter lastStored stores
-  clear-line c k q = (go (find (holds k) (take (t .count) (t .buffers))) (find-says (holds k) (t .count) (t .buffers)), subst (λ (x : Asks). Ordered x (plainAnswer 0) h) (sym q) tt)
+  clear-line c k q = (go (find (holds k) (take (t .count) (t .buffers))) (find-says (holds k) (t .count) (t .buffers)), subst (λ (x : Asks). InOrder x (plainAnswer 0) h) (sym q) tt)
     where
       e : Event
       e = ev c (plainAnswer 0)
@@ -354,11 +378,11 @@ module _ (h : History) (t : Translator) (tied : Tied h t) (line : Line h (t .buf
 
   reset-line : (c : Call) (z : Lane) → asks c ≡ resets z → InLine h c (resetLane t z .buffers) (plainAnswer 0)
   unfolding resetLane
-  reset-line c z q = (line-reset h (ev c (plainAnswer 0)) (t .buffers) line z q refl, subst (λ (x : Asks). Ordered x (plainAnswer 0) h) (sym q) tt)
+  reset-line c z q = (line-reset h (ev c (plainAnswer 0)) (t .buffers) line z q refl, subst (λ (x : Asks). InOrder x (plainAnswer 0) h) (sym q) tt)
 
   empty-line : (c : Call) → asks c ≡ empties → InLine h c (emptied t .buffers) (plainAnswer 0)
   unfolding isPendingAt pendingAfter
-  empty-line c q = (line-empty (ev c (plainAnswer 0) ∷ h) (λ s. rw q), subst (λ (x : Asks). Ordered x (plainAnswer 0) h) (sym q) tt)
+  empty-line c q = (line-empty (ev c (plainAnswer 0) ∷ h) (λ s. rw q), subst (λ (x : Asks). InOrder x (plainAnswer 0) h) (sym q) tt)
 
 -- ---- one call
 
@@ -448,13 +472,16 @@ module _ (h : History) (hub : Hub) (tied : Tied h (hub .translator)) (line : Lin
 
 -- ---- whole runs
 
-all-ordered : (cs : List Call) (h : History) (hub : Hub) → Tied h (hub .translator) → Line h (hub .translator .buffers) → AllOrdered h (runFrom rules hub cs)
+all-ordered : (cs : List Call) (h : History) (hub : Hub) → Tied h (hub .translator) → Line h (hub .translator .buffers) → SideOf h hub
+    → AllOrdered h (runFrom rules hub cs)
 unfolding runFrom AllOrdered
-all-ordered [] h hub tied line = tt
-all-ordered (c ∷ cs) h hub tied line =
-    let one = step-line h hub tied line c in
-    (one .1, all-ordered cs (ev c (step hub c .answer) ∷ h) (step hub c .next) (step-kept h hub tied c .0) (one .0))
+all-ordered [] h hub tied line side = tt
+all-ordered (c ∷ cs) h hub tied line side =
+    let one = step-line h hub tied line c in (
+      joined h (asks c) (step hub c .answer) (one .1) (step-eight h hub side c),
+      all-ordered cs (ev c (step hub c .answer) ∷ h) (step hub c .next) (step-kept h hub tied c .0) (one .0) (step-side h hub side c),
+    )
 
 pub launch-order : LaunchOrder rules
 unfolding isPendingAt
-launch-order n cs = all-ordered cs [] (newHubOf n) (new-tied n) (line-empty [] (λ s. refl))
+launch-order n cs = all-ordered cs [] (newHubOf n) (new-tied n) (line-empty [] (λ s. refl)) (new-side n)

@@ -1,20 +1,26 @@
--- Each mistake in what is refused breaks the claim, on the new hub of the bench cases. Assumes nothing.
+-- Each mistake in what is refused breaks its part of the claim, on the new hub of the bench cases. Assumes nothing.
 use Prim.Native.Nat.{ℕ}
 use native.Mathlib.Omega.{arith}
-use mathlib.Core.Path.{refl, ap}
+use mathlib.Core.Path.{_≡_, refl, sym, _∙_, ap}
+use mathlib.Core.Logic.{inr, ⊎-elim}
 use mathlib.Core.List.{List, [], _∷_}
 use mathlib.Core.Bool.{true≢false}
+use lib.ListN.{length}
+use Rattle.buffer.specs.declared.Direction.the-variants as direction
+use Rattle.translator.specs.Answers.{isRefusal}
+use Rattle.numbers.specs.Split.{keyNamed}
 use Rattle.request.specs.Table.{kindOf}
 use Rattle.request.specs.Request.{requestOf, checked}
 use Rattle.hub.specs.declared.Hub.{Hub}
 use Rattle.hub.specs.Hub.{newFits, hubOf, configuredAs}
-use Rattle.hub.specs.Call.{Control, Poll, Event, Tick}
+use Rattle.hub.specs.Call.{Control, Poll, Complete, Event, Tick}
 use Rattle.hub.specs.Requests.{requested}
 use Rattle.hub.specs.Valid.{ValidHub}
 use Rattle.hub.proofs.Valid.{new-valid}
 use Rattle.hub.specs.Step.{within, roomy, heard, fitting, served, step}
-use Rattle.runs.specs.Refusals.{short, silent, stall, nak, Refusals}
-use Rattle.runs.specs.RefusalMistakes.{hastyStep, closedStep, leakyStep, muteStep, dryStep, RefusalMistakesShutOut}
+use Rattle.runs.specs.Refusals.{outside, short, silent, misplaced, stall, nak, UnknownDirection, Due, Exactly, Unchanged, Numbered}
+use Rattle.runs.specs.RefusalMistakes.{hastyStep, closedStep, leakyStep, muteStep, dryStep, looseStep, laxStep, wordyStep, strayStep, RefusalMistakesShutOut}
+use Rattle.runs.proofs.Refusing.{number-refuses, refusals}
 
 -- four ports, two buffers
 abbrev bench : Hub
@@ -33,29 +39,60 @@ abbrev getDescriptor : List ℕ
 getDescriptor = 0xA0 ∷ 0x06 ∷ 0x00 ∷ 0x29 ∷ 0x00 ∷ 0x00 ∷ 0x09 ∷ 0x00 ∷ []
 
 -- a poll without reply space: 7 comes first
-hasty : ¬ (Refusals hastyStep)
+hasty : ¬ (Exactly hastyStep)
 unfolding hastyStep within roomy heard
-hasty claim = claim .exactly silent bench (Poll 0 0) bench-valid .0 refl .none-before short (omega arith) refl
+hasty claim = claim silent bench (Poll 0 0) bench-valid .0 refl .none-before short (omega arith) (omega arith)
 
 -- a tick is never refused
-closed : ¬ (Refusals closedStep)
+closed : ¬ (Exactly closedStep)
 unfolding closedStep
-closed claim = claim .exactly nak bench Tick bench-valid .0 refl .applies
+closed claim = claim nak bench Tick bench-valid .0 refl .applies
 
 -- SetConfiguration 2 leaves the hub unconfigured
-leaky : ¬ (Refusals leakyStep)
+leaky : ¬ (Unchanged leakyStep)
 unfolding leakyStep step within roomy heard fitting served requested requestOf checked kindOf configuredAs
-leaky claim = true≢false (ap (λ (h : Hub). h .configured) (claim .unchanged stall bench (Control 0 wrongValue 64) bench-valid refl .0))
+leaky claim = true≢false (ap (λ (h : Hub). h .configured) (claim stall bench (Control 0 wrongValue 64) bench-valid refl .0))
 
 -- an attach at port 1
-mute : ¬ (Refusals muteStep)
+mute : ¬ (Exactly muteStep)
 unfolding muteStep step within roomy heard fitting served
-mute claim = claim .exactly silent bench (Event 0 1) bench-valid .0 refl .applies
+mute claim = claim silent bench (Event 0 1) bench-valid .0 refl .applies
 
 -- the descriptor is given unconfigured
-dry : ¬ (Refusals dryStep)
+dry : ¬ (Exactly dryStep)
 unfolding dryStep step within roomy heard fitting served requested requestOf checked kindOf
-dry claim = claim .exactly nak bench (Control 0 getDescriptor 64) bench-valid .0 refl .applies
+dry claim = claim nak bench (Control 0 getDescriptor 64) bench-valid .0 refl .applies
+
+unknown-7 : UnknownDirection 7
+unknown-7 direction.Out = λ e. omega (arith, e)
+unknown-7 direction.In = λ e. omega (arith, e)
+
+-- a complete-split with direction 7: 6 comes first
+loose : ¬ (Exactly looseStep)
+unfolding looseStep step within roomy heard keyNamed
+loose claim = claim silent bench (Complete 0 5 1 7 64) bench-valid .0 refl .none-before outside (omega arith) (inr (inr (inr unknown-7)))
+
+-- an attach on an unconfigured hub: 8 is due
+lax : ¬ (Exactly laxStep)
+unfolding laxStep step within roomy heard fitting
+lax claim =
+    let due : Due misplaced bench (Event 0 1) = refusals .exactly misplaced bench (Event 0 1) bench-valid .0 refl in
+    let z : _≡_ {A = ℕ} 0 8 = claim misplaced bench (Event 0 1) bench-valid .1 due in
+    omega (arith, z)
+
+-- SetConfiguration 2 is STALL
+wordy : ¬ (Unchanged wordyStep)
+unfolding wordyStep step within roomy heard fitting served requested requestOf checked kindOf
+wordy claim =
+    let z : _≡_ {A = ℕ} 1 0 = ap (length {A = ℕ}) (claim stall bench (Control 0 wrongValue 64) bench-valid refl .1) in
+    omega (arith, z)
+
+stray : ¬ (Numbered strayStep)
+unfolding strayStep
+stray claim =
+    ⊎-elim (λ x. true≢false (sym (number-refuses (x .0)) ∙ ap isRefusal (sym (x .1))))
+    (⊎-elim (λ z. omega (arith, z)) (⊎-elim (λ z. omega (arith, z)) (λ z. omega (arith, z)))) (claim bench Tick bench-valid)
 
 pub refusal-mistakes-shut-out : RefusalMistakesShutOut
-refusal-mistakes-shut-out = record { hasty = hasty; closed = closed; leaky = leaky; mute = mute; dry = dry }
+refusal-mistakes-shut-out =
+    record { hasty = hasty; closed = closed; leaky = leaky; mute = mute; dry = dry; loose = loose; lax = lax; wordy = wordy; stray = stray }

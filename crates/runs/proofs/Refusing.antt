@@ -9,6 +9,7 @@ use borrow.Author.Tests.{eqb-true, eqb-false, leb-true, ltb-true, ltb-false}
 use lib.Dec.{eqb, leb, ltb}
 use lib.ListN.{length, take}
 use Rattle.port.specs.Events.{lineEvent}
+use Rattle.port.specs.Claims.{NamedIn}
 use Rattle.port.proofs.Claimed.{port-claims}
 use Rattle.ports.specs.Ports.{portAt}
 use Rattle.ports.specs.Bitmap.{bitmapOf}
@@ -64,6 +65,8 @@ use Rattle.hub.specs.Valid.{ValidHub}
 use Rattle.hub.specs.Step as rule
 use Rattle.hub.specs.Step.{within, roomy, heard, fitting, firstRefusal, step}
 use Rattle.runs.specs.Refusals.{Refusal, outside, short, silent, misplaced, stall, nak, nyet, numberOf, rank, Silent, Occupied, Unsuited, Untaken, Misplaced, IsWrong, Stalled, NothingToGive, NotYet, Applies, Due, Serves, Refusals}
+use Rattle.hub.proofs.Tells.{Tells, not-told, passes, both-tell}
+use Rattle.runs.proofs.Outside.{outside-tells, short-tells}
 
 -- ---- no two refusals have one number, or one rank
 
@@ -123,7 +126,7 @@ one-due r q h c d e = go (ltb (rank r) (rank q)) refl (ltb (rank q) (rank r)) re
 
 -- ---- the number of a call that is served is none of theirs
 
-number-refuses : (r : Refusal) → isRefusal (numberOf r) ≡ true
+pub number-refuses : (r : Refusal) → isRefusal (numberOf r) ≡ true
 number-refuses outside = refl
 number-refuses short = refl
 number-refuses silent = refl
@@ -191,28 +194,20 @@ never x = x
 
 -- ---- 5 and 8: the tests of the rules say whether they apply
 
-abbrev Tells : Bool → Type 0 → Type 0
-Tells true A = ¬ A
-Tells false A = A
-
 configured-tells : (h : Hub) → Tells (h .configured) (h .configured ≡ false)
-configured-tells h = go (h .configured) refl
-  where
-    go : (x : Bool) → h .configured ≡ x → Tells x (h .configured ≡ false)
-    go true e = λ f. true≢false (sym e ∙ f)
-    go false e = e
+configured-tells h = (λ e. e, λ e. e)
 
 silent-tells : (h : Hub) (c : Call) → Tells (heard h c) (Silent h c)
 unfolding heard
-silent-tells h (Control z s room) = never
+silent-tells h (Control z s room) = passes
 silent-tells h (Poll z room) = configured-tells h
 silent-tells h (Start z p t f g a e l) = configured-tells h
 silent-tells h (Complete z a e d room) = configured-tells h
 silent-tells h (Launch room) = configured-tells h
 silent-tells h (Deliver r l) = configured-tells h
-silent-tells h (Event e n) = never
-silent-tells h Tick = never
-silent-tells h BusReset = never
+silent-tells h (Event e n) = passes
+silent-tells h Tick = passes
+silent-tells h BusReset = passes
 
 -- a launch that was answered so
 abbrev LaunchTells : Launched → Type 0 → Type 0
@@ -223,19 +218,19 @@ unfolding launch
 launch-tells t = go (t .low)
   where
     slot : (n : BufferNumber) (s : Slot) → LaunchTells (launched t n (at (t .buffers) (n .0) .payload) s) ⊥
-    slot n Empty = never
-    slot n (Pending s p) = never
-    slot n (Ready s r) = never
-    slot n (Old s r) = never
+    slot n Empty = passes
+    slot n (Pending s p) = passes
+    slot n (Ready s r) = passes
+    slot n (Old s r) = passes
 
     found : (e : Earliest) → LaunchTells (launchAt t e) ⊥
-    found NonePending = never
+    found NonePending = passes
     found (Stored n p) = slot n (at (t .buffers) (n .0) .slot)
 
     go : (l : LowSide) → LaunchTells (launchBy t l) (Occupied l)
     go Idle = found (earliest (take (t .count) (t .buffers)))
-    go (Running n) = tt
-    go Abandoned = tt
+    go (Running n) = (λ e. tt, λ u. refl)
+    go Abandoned = (λ e. tt, λ u. refl)
 
 -- a delivery answers 8 where A, and 0 where not
 abbrev DeliverTells : Delivered → Type 0 → Type 0
@@ -265,17 +260,31 @@ deliver-tells h r l fits = rw fits (go (h .translator .low))
     go (Running n) = slot n (at (t .buffers) (n .0) .slot)
     go Abandoned = inr (refl, never)
 
-event-tells : (h : Hub) (e n : ℕ) → Tells (fitting h (Event e n)) (Misplaced h (Event e n))
-unfolding fitting
-event-tells h e n = go (h .configured) refl (eqb k 8) refl
-  where
-    k : ℕ
-    k = lineEvent (portAt (h .ports) (record { 0 = n })) (eventFrom e) .number
+-- a line event at port n is not named in the port's state
+abbrev Unnamed : Hub → ℕ → ℕ → Type 0
+Unnamed h e n = ¬ (NamedIn (eventFrom e) (portAt (h .ports) (record { 0 = n }) .state))
 
-    go : (x : Bool) → h .configured ≡ x → (y : Bool) → eqb k 8 ≡ y → Tells (x && not y) ((h .configured ≡ false) ⊎ (k ≡ 8))
-    go false f y g = inl f
-    go true f true g = inr (eqb-true k 8 g)
-    go true f false g = ⊎-elim (λ u. true≢false (sym f ∙ u)) (eqb-false k 8 g)
+event-number : Hub → ℕ → ℕ → ℕ
+event-number h e n = lineEvent (portAt (h .ports) (record { 0 = n })) (eventFrom e) .number
+
+refused-unnamed : (h : Hub) (e n : ℕ) → event-number h e n ≡ 8 → Unnamed h e n
+unfolding event-number
+refused-unnamed h e n z u =
+    let y : event-number h e n ≡ 0 = port-claims .event-done (portAt (h .ports) (record { 0 = n })) (eventFrom e) .1 u in omega (arith, y, z)
+
+event-tells : (h : Hub) (e n : ℕ) → Tells (fitting h (Event e n)) (Misplaced h (Event e n))
+unfolding fitting event-number
+event-tells h e n =
+    both-tell (h .configured) (not (eqb (event-number h e n) 8)) (configured-tells h)
+    (λ _. by (port-claims .event-answers (portAt (h .ports) (record { 0 = n })) (eventFrom e)))
+  where
+    At : ℕ → Type 0
+    At k = Tells (not (eqb k 8)) (Unnamed h e n)
+
+    by : (event-number h e n ≡ 0) ⊎ (event-number h e n ≡ 8) → At (event-number h e n)
+    by (inl z) =
+        subst At (sym z) (λ f. absurd (true≢false f), λ u. absurd (u (port-claims .event-done (portAt (h .ports) (record { 0 = n })) (eventFrom e) .0 z)))
+    by (inr z) = subst At (sym z) (λ f. refused-unnamed h e n z, λ u. refl)
 
 result-fits : (h : Hub) (r : ℕ) (l : List ℕ) → within h (Deliver r l) ≡ true → resultLength (resultFrom r) (length l) ≡ true
 unfolding within
@@ -283,20 +292,20 @@ result-fits h r l w = and-eq-true-iff (isResult r) (resultLength (resultFrom r) 
 
 misplaced-tells : (h : Hub) (c : Call) → within h c ≡ true → Tells (fitting h c) (Misplaced h c)
 unfolding fitting
-misplaced-tells h (Control z s room) w = never
-misplaced-tells h (Poll z room) w = never
-misplaced-tells h (Start z p t f g a e l) w = never
-misplaced-tells h (Complete z a e d room) w = never
+misplaced-tells h (Control z s room) w = passes
+misplaced-tells h (Poll z room) w = passes
+misplaced-tells h (Start z p t f g a e l) w = passes
+misplaced-tells h (Complete z a e d room) w = passes
 misplaced-tells h (Launch room) w = launch-tells (h .translator)
 misplaced-tells h (Deliver r l) w = go (deliver-tells h (resultFrom r) l (result-fits h r l w))
   where
     go : DeliverTells (deliver (h .translator) (resultFrom r) l) (Untaken h (resultFrom r) (h .translator .low))
         → Tells (not (eqb (deliverNumber (deliver (h .translator) (resultFrom r) l .answer)) 8)) (Untaken h (resultFrom r) (h .translator .low))
-    go (inl x) = rw (x .0) (x .1)
-    go (inr x) = rw (x .0) (x .1)
+    go (inl x) = rw (x .0) (λ f. x .1, λ u. refl)
+    go (inr x) = rw (x .0) (λ f. absurd (true≢false f), λ u. absurd (x .1 u))
 misplaced-tells h (Event e n) w = event-tells h e n
-misplaced-tells h Tick w = never
-misplaced-tells h BusReset w = never
+misplaced-tells h Tick w = passes
+misplaced-tells h BusReset w = passes
 
 -- ---- the call's own rule
 
@@ -464,7 +473,7 @@ module _ (h : Hub) (valid : ValidHub h) where
       go (answer.Launches s) e says = at-last h c p never (λ u. true≢false (sym (ap isPending (says .pending)) ∙ u (says .number .0))) never (inr (inl refl))
 
   rule-sorted : (c : Call) → within h c ≡ true → fitting h c ≡ true → ¬ (Misplaced h c) → Past h c 4 → Verdict h c (rule.served h c)
-  unfolding rule.served
+  unfolding rule.served event-number
   rule-sorted (Control z s room) w f m p = control-sorted h z s room p
   rule-sorted (Poll z room) w f m p = poll-sorted z room p
   rule-sorted (Start z x t f g a e l) w fit m p = start-sorted z x t f g a e l w p
@@ -475,31 +484,32 @@ module _ (h : Hub) (valid : ValidHub h) where
       (⊎-elim (λ x. absurd (m (x .1))) (λ x. inl (x .0)) (deliver-tells h (resultFrom r) l (result-fits h r l w)))
   rule-sorted (Event e n) w f m p =
       at-last h (Event e n) p never never never
-      (⊎-elim inl (λ x. absurd (m (inr x))) (port-claims .event-answers (portAt (h .ports) (record { 0 = n })) (eventFrom e)))
+      (⊎-elim inl (λ x. absurd (m (inr (refused-unnamed h e n x)))) (port-claims .event-answers (portAt (h .ports) (record { 0 = n })) (eventFrom e)))
   rule-sorted Tick w f m p = at-last h Tick p never never never (inl refl)
   rule-sorted BusReset w f m p = at-last h BusReset p never never never (inl refl)
 
   sorted : (c : Call) → Verdict h c (step h c)
   unfolding step
-  sorted c = go (within h c) refl (roomy c) refl (heard h c) (silent-tells h c) (fitting h c) refl (misplaced-tells h c)
+  sorted c = go (within h c) refl (roomy c) refl (heard h c) refl (fitting h c) refl
     where
       six : within h c ≡ true → Past h c 1
-      six e = past h c outside (past-none h c) (λ f. true≢false (sym e ∙ f))
+      six w = past h c outside (past-none h c) (not-told (outside-tells h c) w)
 
       seven : within h c ≡ true → roomy c ≡ true → Past h c 2
-      seven e g = past h c short (six e) (λ f. true≢false (sym g ∙ f))
+      seven w r = past h c short (six w) (not-told (short-tells c) r)
 
-      five : within h c ≡ true → roomy c ≡ true → ¬ (Silent h c) → Past h c 3
-      five e g s = past h c silent (seven e g) s
+      five : within h c ≡ true → roomy c ≡ true → heard h c ≡ true → Past h c 3
+      five w r s = past h c silent (seven w r) (not-told (silent-tells h c) s)
 
-      go : (w : Bool) → within h c ≡ w → (r : Bool) → roomy c ≡ r → (s : Bool) → Tells s (Silent h c) → (f : Bool) → fitting h c ≡ f
-          → (within h c ≡ true → Tells f (Misplaced h c))
+      go : (w : Bool) → within h c ≡ w → (r : Bool) → roomy c ≡ r → (s : Bool) → heard h c ≡ s → (f : Bool) → fitting h c ≡ f
           → Verdict h c (cond (eqb (firstRefusal w r s f) 0) (rule.served h c) (refuse (firstRefusal w r s f) h))
-      go false e r g s k f i m = is-due h c outside (past-none h c) e refl
-      go true e false g s k f i m = is-due h c short (six e) g refl
-      go true e true g false k f i m = is-due h c silent (seven e g) k refl
-      go true e true g true k false i m = is-due h c misplaced (five e g k) (m e) refl
-      go true e true g true k true i m = rule-sorted c e i (m e) (past h c misplaced (five e g k) (m e))
+      go false w r x s y f z = is-due h c outside (past-none h c) (outside-tells h c .0 w) refl
+      go true w false r s y f z = is-due h c short (six w) (short-tells c .0 r) refl
+      go true w true r false s f z = is-due h c silent (seven w r) (silent-tells h c .0 s) refl
+      go true w true r true s false f = is-due h c misplaced (five w r s) (misplaced-tells h c w .0 f) refl
+      go true w true r true s true f =
+          let m : ¬ (Misplaced h c) = not-told (misplaced-tells h c w) f in
+          rule-sorted c w f m (past h c misplaced (five w r s) m)
 
   -- ---- the claim
 

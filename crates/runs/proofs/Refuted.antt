@@ -56,7 +56,7 @@ abbrev pub complete : ℕ → ℕ → Call
 complete a d = Complete 0 a 1 d 64
 
 -- ClearTTBuffer of IN, device 5, endpoint 1
-abbrev clear-5 : Call
+abbrev pub clear-5 : Call
 clear-5 = Control 0 (0x23 ∷ 0x08 ∷ 0x51 ∷ 0x80 ∷ 1 ∷ 0 ∷ 0 ∷ 0 ∷ []) 64
 
 late : ¬ (DataExplained (altered lateResult))
@@ -73,7 +73,7 @@ unfolding bench newFits runFrom SameCalls SameAnswers padded payloadOf sameKey n
 late-shows claim =
     let calls : List ℕ → List Call = λ x. configure ∷ in-to 5 ∷ Launch 64 ∷ clear-5 ∷ in-to 6 ∷ Deliver 3 x ∷ complete 6 1 ∷ [] in
     let answers =
-    claim (keyOf Zero 5 1 direction.In) bench (calls (1 ∷ [])) (calls (2 ∷ []))
+    claim (keyOf Zero 5 1 direction.In) bench bench (calls (1 ∷ [])) (calls (2 ∷ [])) refl
     (same _, (same _, (same _, (same _, (same _, (deliver 3 (1 ∷ []) (2 ∷ []) (record { key = keyOf Zero 5 1 direction.In; place = some 1 }) refl refl refl, (same _, tt))))))) in
     let other : ¬ (onlyKey (keyOf Zero 5 1 direction.In) (keyOf Zero 6 1 direction.In) ≡ true) = λ e. false≢true e in
     let z : _≡_ {A = ℕ} 1 2 = ap (λ (l : List ℕ). getD l 0 0) (answers .1 .1 .1 .1 .1 .1 .0 .bytes other) in

@@ -167,7 +167,7 @@ module _ (m : Marks) where
       (one .0, runs-same cs ds (ev c (step g c .answer) ∷ h) (step g c .next) (step u d .next) (step-kept h g tied c .0) (one .1) (s .1))
 
 hidden : (m : Marks) → Hidden rules m
-hidden m n cs ds s = runs-same m cs ds [] (newHubOf n) (newHubOf n) (new-tied n) refl s
+hidden m n k cs ds e s = runs-same m cs ds [] (newHubOf n) (newHubOf k) (new-tied n) (ap (hideH m) e) s
 
 pub demand-3 : Demand3 rules
 demand-3 =

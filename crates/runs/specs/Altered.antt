@@ -32,10 +32,10 @@ use Rattle.request.specs.declared.Request.the-variants.{Wrong, SetConfiguration
 use Rattle.request.specs.Request.{requestOf}
 use Rattle.hub.specs.declared.Hub.{Hub}
 use Rattle.hub.specs.Hub.{withTranslator}
-use Rattle.hub.specs.Call.{Call, Control, Poll, Start, Complete, Launch, Deliver, Event, Tick, BusReset, Outcome, done, refuse, gives}
+use Rattle.hub.specs.Call.{Call, Control, Poll, Start, Complete, Launch, Deliver, Event, Tick, BusReset, Answer, Outcome, done, refuse, gives}
 use Rattle.hub.specs.Requests.{setFeature, keyed, byRequest, servedAlways}
 use Rattle.hub.specs.Rules.{polled, startedAs, completedAs, launchedAs, eventAt}
-use Rattle.hub.specs.Step.{within, roomy, heard, fitting, served, firstRefusal}
+use Rattle.hub.specs.Step.{within, roomy, heard, fitting, served, firstRefusal, step}
 use Rattle.runs.specs.Machine.{Machine, ruled}
 
 pub record TranslatorRules : Type 0 where
@@ -140,6 +140,51 @@ altered r = ruled (stepBy r)
 
 abbrev pub alteredPorts : PortRules → Machine
 alteredPorts q = ruled (checked (servedBy own q))
+
+-- ---- the rules with other answers
+
+-- each answer is what f makes of it and of the hub before the call
+abbrev pub answering : (Hub → Answer → Answer) → Machine
+answering f = ruled (λ h c. let o = step h c in record { next = o .next; answer = f h (o .answer) })
+
+-- the answer with these bytes
+abbrev pub withBytes : Answer → List ℕ → Answer
+withBytes a l =
+    record {
+      number = a .number;
+      pid = a .pid;
+      transfer = a .transfer;
+      lane = a .lane;
+      address = a .address;
+      endpoint = a .endpoint;
+      direction = a .direction;
+      lowspeed = a .lowspeed;
+      toggle = a .toggle;
+      bytes = l;
+    }
+
+-- the numbers of an answer
+pub data Field : Type 0 where
+  number : Field
+  pid : Field
+  transfer : Field
+  lane : Field
+  address : Field
+  endpoint : Field
+  direction : Field
+  lowspeed : Field
+  toggle : Field
+
+abbrev pub fieldOf : Field → Answer → ℕ
+fieldOf number a = a .number
+fieldOf pid a = a .pid
+fieldOf transfer a = a .transfer
+fieldOf lane a = a .lane
+fieldOf address a = a .address
+fieldOf endpoint a = a .endpoint
+fieldOf direction a = a .direction
+fieldOf lowspeed a = a .lowspeed
+fieldOf toggle a = a .toggle
 
 -- ---- a search by another test of keys
 

@@ -11,7 +11,7 @@ use Rattle.buffer.specs.Key.{sameLane, sameKey, directionOf}
 use Rattle.numbers.specs.Named.{laneFrom, pidFrom}
 use Rattle.hub.specs.Call.{Call, Start, Deliver, Answer}
 use Rattle.runs.specs.History.{Event, History, Asks, nothing, starts, completes, launches, delivers, clears, resets, empties, keyOf, asks, answerKey, lastStored, For, lastFor, deliveredTo}
-use Rattle.runs.specs.Machine.{Machine, run}
+use Rattle.runs.specs.Machine.{Machine, newHubOf, run}
 
 -- ---- first half: whatever the marked bytes are, they show nowhere else
 
@@ -73,7 +73,9 @@ SameAnswers m (e ∷ es) (f ∷ fs) = SameAnswer m (e .call) (e .answer) (f .ans
 -- Take any two runs on equal new hubs that hold the same calls in the same order, but for those bytes. Then each call has the same answer
 -- in both, except those bytes.
 abbrev pub Hidden : (w : Machine) → Marks → Type 0
-Hidden w m = (n : w .Made) (cs ds : List (w .Asked)) → SameCalls m [] (run w n cs) (run w n ds) → SameAnswers m (run w n cs) (run w n ds)
+Hidden w m =
+    (n k : w .Made) (cs ds : List (w .Asked)) → newHubOf (w .numbers n) ≡ newHubOf (w .numbers k)
+    → SameCalls m [] (run w n cs) (run w k ds) → SameAnswers m (run w n cs) (run w k ds)
 
 -- whatever keys are marked
 abbrev pub SetHidden : Machine → Type 0

@@ -1,11 +1,15 @@
--- The four empty programs of document 01, and that demand 2 shuts each out. A reader must believe: each is the program that its comment names.
+-- The four empty programs of document 01, two more, and that demand 2 shuts each out. A reader must believe: each is the program that its
+-- comment names.
+use mathlib.Core.Path.{_≡_}
+use mathlib.Core.List.{map}
 use Rattle.translator.specs.declared.Earliest.{Earliest}
 use Rattle.translator.specs.declared.Earliest.the-variants.{NonePending, Stored}
 use Rattle.translator.specs.Order.{earliest}
 use Rattle.hub.specs.declared.Hub.{Hub}
-use Rattle.hub.specs.Call.{Call, Control, Poll, Start, Complete, Launch, Deliver, Event, Tick, BusReset, Outcome, refuse}
+use Rattle.hub.specs.Call.{Call, Control, Poll, Start, Complete, Launch, Deliver, Event, Tick, BusReset, Answer, Outcome, refuse}
 use Rattle.hub.specs.Step.{step}
 use Rattle.runs.specs.Machine.{ruled}
+use Rattle.runs.specs.Altered.{answering, withBytes, Field, fieldOf}
 use Rattle.runs.specs.Demand2.{Demand2}
 
 -- refuse everything
@@ -39,8 +43,16 @@ pretends h (Event e n) = step h (Event e n)
 pretends h Tick = step h Tick
 pretends h BusReset = step h BusReset
 
+-- zeros for the bytes of every answer
+abbrev pub zeroed : Answer → Answer
+zeroed a = withBytes a (map (λ b. 0) (a .bytes))
+
 pub record EmptyProgramsShutOut : Type 0 where
   pub refusing : ¬ (Demand2 (ruled refusesAll))
   pub naking : ¬ (Demand2 (ruled naksAlways))
   pub idle : ¬ (Demand2 (ruled leavesAlone))
   pub pretending : ¬ (Demand2 (ruled pretends))
+  -- answered with the right numbers, and zeros for bytes
+  pub zeroing : ¬ (Demand2 (answering (λ h a. zeroed a)))
+  -- 0 for one of the numbers: the PID, say, or the address
+  pub dropping : (f : Field) (drop : Answer → Answer) → ((a : Answer) → fieldOf f (drop a) ≡ 0) → ¬ (Demand2 (answering (λ h a. drop a)))

@@ -9,6 +9,8 @@ pub mod ErrorReports
 pub mod Refusals
 pub mod Altered
 pub mod Mistakes
+pub mod HidingMistakes
+pub mod OrderMistakes
 pub mod TallyMistakes
 pub mod LaneMistakes
 pub mod RefusalMistakes

@@ -5,13 +5,21 @@ use mathlib.Core.Path.{_≡_}
 use mathlib.Core.Logic.{_↔_, _⊎_}
 use mathlib.Core.Bool.{Bool, true, false}
 use mathlib.Core.List.{[]}
+use lib.ListN.{length}
 use Rattle.port.specs.declared.PortNumber.{PortNumber}
+use Rattle.port.specs.declared.LineEvent.{LineEvent}
 use Rattle.port.specs.Status.{hasChange}
-use Rattle.port.specs.Events.{lineEvent}
+use Rattle.port.specs.Claims.{NamedIn}
 use Rattle.ports.specs.Ports.{portAt}
 use Rattle.ports.specs.Claims.{Among}
 use Rattle.buffer.specs.declared.Key.{Key}
+use Rattle.buffer.specs.declared.Pid.{Pid}
+use Rattle.buffer.specs.declared.Pid.the-variants as pid
+use Rattle.buffer.specs.declared.TransferType.{TransferType}
+use Rattle.buffer.specs.declared.TransferType.the-variants as transfer
+use Rattle.buffer.specs.declared.Direction.{Direction}
 use Rattle.buffer.specs.declared.DeviceResult.{DeviceResult}
+use Rattle.buffer.specs.declared.DeviceResult.the-variants as result
 use Rattle.buffer.specs.declared.Slot.{Slot}
 use Rattle.buffer.specs.declared.Slot.the-variants.{Empty, Pending, Ready, Old}
 use Rattle.buffer.specs.Key.{keyOf}
@@ -21,6 +29,8 @@ use Rattle.translator.specs.declared.LowSide.{LowSide}
 use Rattle.translator.specs.declared.LowSide.the-variants.{Idle, Running, Abandoned}
 use Rattle.translator.specs.Translator.{at}
 use Rattle.translator.specs.Limit.{AtLimit, NoRepeat}
+use Rattle.translator.specs.Answers.{pidNumber}
+use Rattle.numbers.specs.Written.{typeNumber, directionNumber, resultWritten, eventNumber}
 use Rattle.numbers.specs.Named.{resultFrom, eventFrom, laneFrom}
 use Rattle.numbers.specs.Split.{splitFrom, keyFrom}
 use Rattle.request.specs.declared.Fault.{Fault}
@@ -31,7 +41,6 @@ use Rattle.hub.specs.declared.Hub.{Hub}
 use Rattle.hub.specs.Call.{Call, Control, Poll, Start, Complete, Launch, Deliver, Event, Tick, BusReset, Outcome}
 use Rattle.hub.specs.Requests.{servedAlways}
 use Rattle.hub.specs.Valid.{ValidHub}
-use Rattle.hub.specs.Step.{within, roomy}
 
 -- Answers 2 to 8 are the refusals.
 pub data Refusal : Type 0 where
@@ -72,6 +81,81 @@ rank nyet = 6
 -- the slot of buffer i
 abbrev pub slotAt : Hub → ℕ → Slot
 slotAt h i = at (h .translator .buffers) i .slot
+
+-- Numbers: device address 0 to 127; endpoint 0 to 15; payload 0 to 64 bytes. A lane outside 0 and 1 is 6.
+abbrev pub OverAddress : ℕ → Type 0
+OverAddress a = 127 < a
+
+abbrev pub OverEndpoint : ℕ → Type 0
+OverEndpoint e = 15 < e
+
+abbrev pub OverPayload : ℕ → Type 0
+OverPayload n = 64 < n
+
+abbrev pub UnknownLane : ℕ → Type 0
+UnknownLane z = 1 < z
+
+-- An event, PID, type, direction or result number that isn't named here, or a flag or toggle above 1, is 6.
+abbrev pub UnknownPid : ℕ → Type 0
+UnknownPid p = (v : Pid) → ¬ (p ≡ pidNumber v)
+
+abbrev pub UnknownType : ℕ → Type 0
+UnknownType t = (v : TransferType) → ¬ (t ≡ typeNumber v)
+
+abbrev pub UnknownDirection : ℕ → Type 0
+UnknownDirection d = (v : Direction) → ¬ (d ≡ directionNumber v)
+
+abbrev pub UnknownResult : ℕ → Type 0
+UnknownResult r = (v : DeviceResult) → ¬ (r ≡ resultWritten v)
+
+abbrev pub UnknownEvent : ℕ → Type 0
+UnknownEvent e = (v : LineEvent) → ¬ (e ≡ eventNumber v)
+
+abbrev pub OverFlag : ℕ → Type 0
+OverFlag f = 1 < f
+
+-- N ports, numbered from 1.
+abbrev pub NoSuchPort : ℕ → ℕ → Type 0
+NoSuchPort count n = (n ≡ 0) ⊎ (count < n)
+
+-- IN carries none
+abbrev pub PayloadOnIn : ℕ → ℕ → Type 0
+PayloadOnIn p n = (p ≡ pidNumber pid.In) × (¬ (n ≡ 0))
+
+-- SETUP is control with 8 bytes, else 6.
+abbrev pub WrongSetup : ℕ → ℕ → ℕ → Type 0
+WrongSetup p t n = (p ≡ pidNumber pid.Setup) × ((¬ (t ≡ typeNumber transfer.Control)) ⊎ (¬ (n ≡ 8)))
+
+-- Payload over 64, or on a result that isn't data: 6.
+abbrev pub PayloadOnHandshake : ℕ → ℕ → Type 0
+PayloadOnHandshake r n = (¬ (r ≡ resultWritten result.Data0)) × (¬ (r ≡ resultWritten result.Data1)) × (¬ (n ≡ 0))
+
+-- 6 a number or length outside the rules
+abbrev pub Outside : Hub → Call → Type 0
+-- Setup bytes are exactly 8, else 6.
+Outside h (Control z s room) = (¬ (length s ≡ 8)) ⊎ UnknownLane z
+Outside h (Poll z room) = UnknownLane z
+Outside h (Start z p t f g a e l) =
+    UnknownLane z ⊎ UnknownPid p ⊎ UnknownType t ⊎ OverFlag f ⊎ OverFlag g ⊎ OverAddress a ⊎ OverEndpoint e
+    ⊎ OverPayload (length l) ⊎ PayloadOnIn p (length l) ⊎ WrongSetup p t (length l)
+Outside h (Complete z a e d room) = UnknownLane z ⊎ OverAddress a ⊎ OverEndpoint e ⊎ UnknownDirection d
+Outside h (Launch room) = ⊥
+Outside h (Deliver r l) = UnknownResult r ⊎ OverPayload (length l) ⊎ PayloadOnHandshake r (length l)
+Outside h (Event e n) = UnknownEvent e ⊎ NoSuchPort (h .identity .ports) n
+Outside h Tick = ⊥
+Outside h BusReset = ⊥
+
+-- 7 reply space under 64 bytes. Calls that can write take reply space: control request, poll, launch, complete-split.
+abbrev pub Short : Call → Type 0
+Short (Control z s room) = room < 64
+Short (Poll z room) = room < 64
+Short (Start z p t f g a e l) = ⊥
+Short (Complete z a e d room) = room < 64
+Short (Launch room) = room < 64
+Short (Deliver r l) = ⊥
+Short (Event e n) = ⊥
+Short Tick = ⊥
+Short BusReset = ⊥
 
 -- 5 silent, hub unconfigured. On an unconfigured hub poll, launch, deliver and both splits answer 5; control requests never do.
 abbrev pub Silent : Hub → Call → Type 0
@@ -115,7 +199,7 @@ Misplaced h (Launch room) = Occupied (h .translator .low)
 -- Deliver: 8 if none runs or the result doesn't suit the PID.
 Misplaced h (Deliver r l) = Untaken h (resultFrom r) (h .translator .low)
 -- Line events on an unconfigured hub answer 8. Events elsewhere than named answer 8.
-Misplaced h (Event e n) = (h .configured ≡ false) ⊎ (lineEvent (portAt (h .ports) (record { 0 = n })) (eventFrom e) .number ≡ 8)
+Misplaced h (Event e n) = (h .configured ≡ false) ⊎ (¬ (NamedIn (eventFrom e) (portAt (h .ports) (record { 0 = n }) .state)))
 -- A tick on an unconfigured hub answers 0. A configured hub answers 0 to every tick.
 Misplaced h Tick = ⊥
 -- Bus reset: done in every state.
@@ -184,11 +268,10 @@ NotYet h (Event e n) = ⊥
 NotYet h Tick = ⊥
 NotYet h BusReset = ⊥
 
--- this refusal applies to the call; for 6 a number or length outside the rules, and 7 reply space under 64 bytes, the rules' own tests
--- `within` and `roomy` say it call by call
+-- this refusal applies to the call
 abbrev pub Applies : Refusal → Hub → Call → Type 0
-Applies outside h c = within h c ≡ false
-Applies short h c = roomy c ≡ false
+Applies outside h c = Outside h c
+Applies short h c = Short c
 Applies silent h c = Silent h c
 Applies misplaced h c = Misplaced h c
 Applies stall h c = Stalled h c
@@ -204,12 +287,21 @@ pub record Due (r : Refusal) (h : Hub) (c : Call) : Type 0 where
 abbrev pub Serves : ℕ → Type 0
 Serves n = (n ≡ 0) ⊎ (n ≡ 1) ⊎ (n ≡ 9)
 
--- of rules f, on every valid hub, for any call
+-- ---- of rules f, on every valid hub, for any call
+
+-- a refusal's number is answered exactly if the refusal is due
+abbrev pub Exactly : (Hub → Call → Outcome) → Type 0
+Exactly f = (r : Refusal) (h : Hub) (c : Call) → ValidHub h → (f h c .answer .number ≡ numberOf r) ↔ Due r h c
+
+-- and then nothing is changed and nothing given
+abbrev pub Unchanged : (Hub → Call → Outcome) → Type 0
+Unchanged f = (r : Refusal) (h : Hub) (c : Call) → ValidHub h → f h c .answer .number ≡ numberOf r → (f h c .next ≡ h) × (f h c .answer .bytes ≡ [])
+
+-- and no other number is answered but 0, 1 and 9
+abbrev pub Numbered : (Hub → Call → Outcome) → Type 0
+Numbered f = (h : Hub) (c : Call) → ValidHub h → ((r : Refusal) × (f h c .answer .number ≡ numberOf r)) ⊎ Serves (f h c .answer .number)
+
 pub record Refusals (f : Hub → Call → Outcome) : Type 0 where
-  -- a refusal's number is answered exactly if the refusal is due
-  pub exactly : (r : Refusal) (h : Hub) (c : Call) → ValidHub h → (f h c .answer .number ≡ numberOf r) ↔ Due r h c
-  -- and then nothing is changed and nothing given
-  pub unchanged : (r : Refusal) (h : Hub) (c : Call) → ValidHub h → f h c .answer .number ≡ numberOf r
-      → (f h c .next ≡ h) × (f h c .answer .bytes ≡ [])
-  -- and no other number is answered but 0, 1 and 9
-  pub numbered : (h : Hub) (c : Call) → ValidHub h → ((r : Refusal) × (f h c .answer .number ≡ numberOf r)) ⊎ Serves (f h c .answer .number)
+  pub exactly : Exactly f
+  pub unchanged : Unchanged f
+  pub numbered : Numbered f

@@ -7,9 +7,11 @@ ghost use Rattle.runs.specs.Demand2.{Reached};
 ghost use Rattle.runs.specs.EmptyPrograms.{EmptyProgramsShutOut};
 ghost use Rattle.runs.specs.Demand3.{Demand3};
 ghost use Rattle.runs.specs.Order.{LaunchOrder};
+ghost use Rattle.runs.specs.OrderMistakes.{OrderMistakesShutOut};
 ghost use Rattle.runs.specs.ErrorReports.{ErrorReports};
 ghost use Rattle.runs.specs.ReportMistakes.{ReportMistakesShutOut};
 ghost use Rattle.runs.specs.Mistakes.{MistakesShutOut};
+ghost use Rattle.runs.specs.HidingMistakes.{HidingMistakesShutOut};
 ghost use Rattle.runs.specs.Tally.{activeBuffers, TallyHolds};
 ghost use Rattle.runs.specs.Share.{LaneShare};
 ghost use Rattle.runs.specs.LaneMistakes.{LaneMistakesShutOut};
@@ -29,7 +31,7 @@ fn reached()
     ensures { λ _. ⌜ Reached ⌝ }
 {}
 
-// The four empty programs break demand 2.
+// The four empty programs break demand 2, and so do answers with zeros for bytes or 0 for one of their numbers.
 fn empty_programs_shut_out()
     ensures { λ _. ⌜ EmptyProgramsShutOut ⌝ }
 {}
@@ -40,6 +42,11 @@ fn demand_3()
 
 fn launch_order()
     ensures { λ _. ⌜ LaunchOrder rules ⌝ }
+{}
+
+// Rules with one mistake in what a launch answers break it.
+fn order_mistakes_shut_out()
+    ensures { λ _. ⌜ OrderMistakesShutOut ⌝ }
 {}
 
 // The host sees C_PORT_ENABLE exactly where a port error stands reported.
@@ -55,6 +62,11 @@ fn report_mistakes_shut_out()
 // Rules with one mistake in the translator break demand 3 or the order.
 fn mistakes_shut_out()
     ensures { λ _. ⌜ MistakesShutOut ⌝ }
+{}
+
+// Rules with one mistake break the part of demand 3 that is to shut it out.
+fn hiding_mistakes_shut_out()
+    ensures { λ _. ⌜ HidingMistakesShutOut ⌝ }
 {}
 
 // Start-splits stored are those answered, those emptied before that, and those pending or ready now.

@@ -1,7 +1,7 @@
 -- What the tests of one port and one buffer come to, over plain values. Assumes nothing.
 use mathlib.Core.Path.{_≡_, refl, sym, ap, _∙_}
 use mathlib.Core.List.{List}
-use mathlib.Core.Bool.{Bool, true, false, cond, not, _&&_, _||_, and-false, and-assoc}
+use mathlib.Core.Bool.{Bool, true, false, cond, _&&_, _||_, and-false, and-assoc}
 use Prim.Native.Nat.{ℕ, zero, suc, _+_, _≤_, _<_, zero-le}
 use native.Mathlib.Decide.{decLe, decLt}
 use native.Mathlib.Omega.{arith}
@@ -10,9 +10,7 @@ use lib.Dec.{eqb, leb, ltb}
 use borrow.Author.Tests.{eqb-true, ne-eqb, le-ltb}
 use Rattle.buffer.specs.declared.Pid.the-variants as pid
 use Rattle.buffer.specs.declared.TransferType.the-variants.{Control, Bulk}
-use Rattle.buffer.specs.declared.DeviceResult.{DeviceResult}
-use Rattle.buffer.specs.declared.DeviceResult.the-variants.{Failure, Ack, Nak, Stall, Data0, Data1}
-use Rattle.buffer.specs.Lengths.{typeFits, numbersFit, startLength, startFits, resultLength, suits}
+use Rattle.buffer.specs.Lengths.{typeFits, numbersFit, startLength, startFits, resultLength}
 use Rattle.buffer.specs.Valid.{slotFits}
 use Rattle.numbers.specs.Named.{isPid, pidFrom, isType, typeFrom, isResult, resultFrom}
 use Rattle.taken.specs.Rows.{blank}
@@ -57,60 +55,7 @@ type-control t = go (eqb t 0) (eqb t 2) (λ e. ap (λ (n : ℕ). eqb n 2) (eqb-t
     go false true f = refl
     go false false f = refl
 
--- which PIDs a result suits
-module _ (p : ℕ) where
-  suits-by : (r : DeviceResult) → suits (pidFrom p) r ≡ cond (eqb p 9) (suits pid.In r) (cond (eqb p 13) (suits pid.Setup r) (suits pid.Out r))
-  suits-by r = go (eqb p 9) (eqb p 13)
-    where
-      go : (a b : Bool) → suits (cond a pid.In (cond b pid.Setup pid.Out)) r ≡ cond a (suits pid.In r) (cond b (suits pid.Setup r) (suits pid.Out r))
-      go true b = refl
-      go false true = refl
-      go false false = refl
-
-  not-setup : cond (eqb p 9) true (cond (eqb p 13) false true) ≡ not (eqb p 13)
-  not-setup = go (eqb p 9) (eqb p 13) (λ e. ap (λ (n : ℕ). eqb n 13) (eqb-true p 9 e))
-    where
-      go : (a b : Bool) → (a ≡ true → b ≡ false) → cond a true (cond b false true) ≡ not b
-      go true b f = ap not (sym (f refl))
-      go false true f = refl
-      go false false f = refl
-
-  in-only : cond (eqb p 9) true (cond (eqb p 13) false false) ≡ eqb p 9
-  in-only = go (eqb p 9) (eqb p 13)
-    where
-      go : (a b : Bool) → cond a true (cond b false false) ≡ a
-      go true b = refl
-      go false true = refl
-      go false false = refl
-
-  pub suits-failure : suits (pidFrom p) Failure ≡ true
-  suits-failure = suits-by Failure ∙ go (eqb p 9) (eqb p 13)
-    where
-      go : (a b : Bool) → cond a true (cond b true true) ≡ true
-      go true b = refl
-      go false true = refl
-      go false false = refl
-
-  pub suits-ack : suits (pidFrom p) Ack ≡ not (eqb p 9)
-  suits-ack = suits-by Ack ∙ go (eqb p 9) (eqb p 13)
-    where
-      go : (a b : Bool) → cond a false (cond b true true) ≡ not a
-      go true b = refl
-      go false true = refl
-      go false false = refl
-
-  pub suits-nak : suits (pidFrom p) Nak ≡ not (eqb p 13)
-  suits-nak = suits-by Nak ∙ not-setup
-
-  pub suits-stall : suits (pidFrom p) Stall ≡ not (eqb p 13)
-  suits-stall = suits-by Stall ∙ not-setup
-
-  pub suits-data0 : suits (pidFrom p) Data0 ≡ eqb p 9
-  suits-data0 = suits-by Data0 ∙ in-only
-
-  pub suits-data1 : suits (pidFrom p) Data1 ≡ eqb p 9
-  suits-data1 = suits-by Data1 ∙ in-only
-
+-- only data has a payload
 pub none-long : (n : ℕ) → leb n 64 && eqb n 0 ≡ eqb n 0
 none-long n = go (eqb n 0) refl
   where
@@ -163,11 +108,11 @@ module _ (l : List ℕ) where
       (isPid (getD l 1 0) && (isType (getD l 2 0) && typeFits (pidFrom (getD l 1 0)) (typeFrom (getD l 2 0))))
       && (ltb (getD l 3 0) 8 && (ltb (getD l 4 0) 128 && ltb (getD l 5 0) 16))
 
-  abbrev suitTests : Bool
-  suitTests = suits (pidFrom (getD l 1 0)) (resultFrom (getD l 6 0)) && resultLength (resultFrom (getD l 6 0)) (getD l 7 0)
+  abbrev resultTest : Bool
+  resultTest = resultLength (resultFrom (getD l 6 0)) (getD l 7 0)
 
   abbrev heldTests : ℕ → Bool
-  heldTests s = cond (eqb s 1) (startLength (pidFrom (getD l 1 0)) (getD l 7 0)) ((eqb s 2 || eqb s 3) && (isResult (getD l 6 0) && suitTests))
+  heldTests s = cond (eqb s 1) (startLength (pidFrom (getD l 1 0)) (getD l 7 0)) ((eqb s 2 || eqb s 3) && (isResult (getD l 6 0) && resultTest))
 
   abbrev Tested : ℕ → Type 0
   Tested s =
@@ -187,8 +132,8 @@ module _ (l : List ℕ) where
     where
       go : Dec (s < 4) → Tested s
       go (yes h) =
-          three Tested (each true (startLength (pidFrom (getD l 1 0)) (getD l 7 0))) (each (isResult (getD l 6 0)) suitTests)
-          (each (isResult (getD l 6 0)) suitTests) s h d
+          three Tested (each true (startLength (pidFrom (getD l 1 0)) (getD l 7 0))) (each (isResult (getD l 6 0)) resultTest)
+          (each (isResult (getD l 6 0)) resultTest) s h d
       go (no h) =
           let f : 4 ≤ s = omega arith in
           let a : s ≡ 1 → ⊥ = λ e. omega arith in

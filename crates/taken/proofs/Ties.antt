@@ -1,7 +1,7 @@
 -- What the tests of the buffers among each other come to, over plain values. Assumes nothing.
 use mathlib.Core.Path.{_≡_, refl, sym, ap, _∙_}
 use mathlib.Core.List.{List, [], _∷_, _++_}
-use mathlib.Core.Bool.{Bool, true, false, cond, not, false≢true, _&&_, _||_, and-false, or-false, or-assoc, and-eq-true-iff}
+use mathlib.Core.Bool.{Bool, true, false, cond, false≢true, _&&_, _||_, and-false, or-false, or-assoc, and-eq-true-iff}
 use Prim.Native.Nat.{ℕ, zero, suc, _*_, _≤_, _<_}
 use native.Mathlib.Nat.{add-zero, not-suc-le-zero}
 use native.Mathlib.Omega.{arith}
@@ -11,15 +11,13 @@ use lib.Dec.{eqb, leb, ltb}
 use borrow.Author.Tests.{eq-eqb, ne-eqb, ltb-true, leb-true}
 use Rattle.buffer.specs.declared.Lane.{Lane}
 use Rattle.buffer.specs.declared.Lane.the-variants.{Zero, One}
-use Rattle.buffer.specs.declared.Direction.the-variants as direction
-use Rattle.buffer.specs.declared.Pid.the-variants as pid
 use Rattle.buffer.specs.declared.StartSplit.{StartSplit}
 use Rattle.buffer.specs.declared.Slot.{Slot}
 use Rattle.buffer.specs.declared.Slot.the-variants.{Empty, Pending, Ready, Old}
 use Rattle.buffer.specs.declared.Buffer.{Buffer}
-use Rattle.buffer.specs.Key.{directionOf, keyOf, sameLane, sameDirection, sameKey}
+use Rattle.buffer.specs.Key.{keyOf, sameLane, sameKey}
 use Rattle.buffer.specs.Buffer.{vacant, isPending, activeIn}
-use Rattle.numbers.specs.Named.{pidFrom, resultFrom}
+use Rattle.numbers.specs.Named.{resultFrom}
 use Rattle.translator.proofs.Lists.{four}
 use Rattle.taken.specs.Rows.{parts, every}
 use Rattle.translator.specs.Slots.{slotsIn}
@@ -28,30 +26,6 @@ use Rattle.taken.proofs.Rows.{All, parts-length, parts-at, row-spare, r
 use Rattle.taken.proofs.Parts.{three}
 
 -- ---- two buffers
-
--- PID 9 is IN; the others go OUT
-ways : (p q : ℕ) → cond (eqb p 9) (eqb q 9) (not (eqb q 9)) ≡ sameDirection (directionOf (pidFrom p)) (directionOf (pidFrom q))
-ways p q = rw (way p, way q) (go (eqb p 9) (eqb q 9))
-  where
-    way : (n : ℕ) → directionOf (pidFrom n) ≡ cond (eqb n 9) direction.In direction.Out
-    way n = pick (eqb n 9) (eqb n 13)
-      where
-        pick : (a b : Bool) → directionOf (cond a pid.In (cond b pid.Setup pid.Out)) ≡ cond a direction.In direction.Out
-        pick true b = refl
-        pick false true = refl
-        pick false false = refl
-
-    go : (a b : Bool) → cond a b (not b) ≡ sameDirection (cond a direction.In direction.Out) (cond b direction.In direction.Out)
-    go true true = refl
-    go true false = refl
-    go false true = refl
-    go false false = refl
-
-pub way-in : (p q : ℕ) → p ≡ 9 → eqb q 9 ≡ sameDirection (directionOf (pidFrom p)) (directionOf (pidFrom q))
-way-in p q e = sym (ap (λ (b : Bool). cond b (eqb q 9) (not (eqb q 9))) (eq-eqb p 9 e)) ∙ ways p q
-
-pub way-out : (p q : ℕ) → ¬ (p ≡ 9) → not (eqb q 9) ≡ sameDirection (directionOf (pidFrom p)) (directionOf (pidFrom q))
-way-out p q d = sym (ap (λ (b : Bool). cond b (eqb q 9) (not (eqb q 9))) (ne-eqb p 9 d)) ∙ ways p q
 
 clash-empty : (x : Slot) → clash x Empty ≡ false
 clash-empty Empty = refl

@@ -4,15 +4,20 @@ ghost use mathlib.Core.Bool.{_&&_, _||_, not, cond};
 ghost use Prim.Native.Nat.{_+_, _*_, _^_, _≤_};
 ghost use lib.Dec.{eqb, leb, ltb};
 ghost use lib.ListN.{length, getD, take, drop};
-ghost use Rattle.buffer.specs.Key.{directionOf, keyOf, sameDirection, sameKey};
-ghost use Rattle.buffer.specs.Lengths.{typeFits, startLength, resultLength, suits};
+ghost use Rattle.buffer.specs.Key.{directionOf, keyOf, sameKey};
+ghost use Rattle.buffer.specs.Lengths.{typeFits, startLength, resultLength};
 ghost use Rattle.numbers.specs.Named.{isPid, pidFrom, isType, typeFrom, isResult, resultFrom};
 ghost use Rattle.hub.specs.Hub.{newFits};
 ghost use Rattle.taken.specs.Rows.{every, blank};
 ghost use Rattle.translator.specs.Slots.{slotsIn};
 ghost use Rattle.taken.specs.Read.{laneIn, heldSplit, slotOf, buffersOf, stateFits, portFits, bufferFits};
 ghost use Rattle.taken.specs.Read.{clash, clashing, filledBy, crowded, runs, lowFits, headFits, sized, rowsFit, accepts};
+use buffer::BufferCount;
+use buffer::DeviceAddress;
+use buffer::Direction;
+use buffer::Key;
 use buffer::Lane;
+use port::PortCount;
 
 // ---- one port, 4 bytes
 
@@ -118,28 +123,29 @@ fn start_length(p: u8, len: u8) -> bool
     }
 }
 
-fn result_fits(p: u8, last: u8, len: u8) -> bool
-    ensures { λ r. ⌜ r ≡ isResult last && (suits (pidFrom p) (resultFrom last) && resultLength (resultFrom last) len) ⌝ }
+// A result and its payload. Only data has one.
+fn result_fits(last: u8, len: u8) -> bool
+    ensures { λ r. ⌜ r ≡ isResult last && resultLength (resultFrom last) len ⌝ }
 {
     match last {
         0 => len == 0,
-        2 => logic::both(p != 9, len == 0),
-        10 => logic::both(p != 13, len == 0),
-        14 => logic::both(p != 13, len == 0),
-        3 => logic::both(p == 9, len <= 64),
-        11 => logic::both(p == 9, len <= 64),
+        2 => len == 0,
+        10 => len == 0,
+        14 => len == 0,
+        3 => len <= 64,
+        11 => len <= 64,
         _ => false,
     }
 }
 
 // The payload of a pending buffer, and the result of a ready or old one.
 fn held_fits(s: u8, p: u8, last: u8, len: u8) -> bool
-    ensures { λ r. ⌜ r ≡ cond (eqb s 1) (startLength (pidFrom p) len) ((eqb s 2 || eqb s 3) && (isResult last && (suits (pidFrom p) (resultFrom last) && resultLength (resultFrom last) len))) ⌝ }
+    ensures { λ r. ⌜ r ≡ cond (eqb s 1) (startLength (pidFrom p) len) ((eqb s 2 || eqb s 3) && (isResult last && resultLength (resultFrom last) len)) ⌝ }
 {
     match s {
         1 => start_length(p, len),
-        2 => result_fits(p, last, len),
-        3 => result_fits(p, last, len),
+        2 => result_fits(last, len),
+        3 => result_fits(last, len),
         _ => false,
     }
 }
@@ -194,13 +200,6 @@ fn is_held(s: u8) -> bool
     logic::both(1 <= s, s < 4)
 }
 
-// Whether two PIDs have one direction.
-fn same_way(p: u8, q: u8) -> bool
-    ensures { λ r. ⌜ r ≡ sameDirection (directionOf (pidFrom p)) (directionOf (pidFrom q)) ⌝ }
-{
-    if p == 9 { q == 9 } else { q != 9 }
-}
-
 // The lane of a start-split with these flags.
 pub fn lane_in(f: u8) -> Lane
     ensures { λ r. ⌜ r ≡ laneIn f ⌝ }
@@ -213,18 +212,27 @@ pub fn lane_in(f: u8) -> Lane
     }
 }
 
+fn direction_in(p: u8) -> Direction
+    ensures { λ r. ⌜ r ≡ directionOf (pidFrom p) ⌝ }
+{
+    let pid = numbers::pid_of(p as u32);
+    pid.direction()
+}
+
+// The key that a buffer is held under.
+fn held_key(b: &[u8]) -> Key
+    requires { ⌜ length (now b) ≡ 72 ⌝ }
+    ensures { λ r. ⌜ r ≡ keyOf (heldSplit (now (b .entry))) ⌝ }
+{
+    Key::new(lane_in(b[3]), DeviceAddress(b[4]), b[5], direction_in(b[1]))
+}
+
 fn same_key(x: &[u8], y: &[u8]) -> bool
     requires { ⌜ (length (now x) ≡ 72) × (length (now y) ≡ 72) ⌝ }
     ensures { λ r. ⌜ r ≡ sameKey (keyOf (heldSplit (now (x .entry)))) (keyOf (heldSplit (now (y .entry)))) ⌝ }
 {
-    if x[4] != y[4] {
-        return false;
-    }
-    let lane = lane_in(x[3]);
-    logic::both(
-        lane.same(lane_in(y[3])),
-        logic::both(x[5] == y[5], same_way(x[1], y[1])),
-    )
+    let key = held_key(x);
+    key.same(held_key(y))
 }
 
 // Whether two buffers are pending at one place.
@@ -359,11 +367,12 @@ fn buffers_agree(b: &[u8], n: usize, low: u8, running: u8) -> bool
 // ---- the hub
 
 // A removable byte has no bit above N.
-fn removable_fits(n: u8, removable: u8) -> bool
-    requires { ⌜ n ≤ 7 ⌝ }
-    ensures { λ r. ⌜ r ≡ ltb removable (2 ^ (n + 1)) ⌝ }
+fn removable_fits(n: PortCount, removable: u8) -> bool
+    requires { ⌜ n .0 ≤ 7 ⌝ }
+    ensures { λ r. ⌜ r ≡ ltb removable (2 ^ (n .0 + 1)) ⌝ }
 {
-    match n {
+    let count = n.0;
+    match count {
         0 => removable < 2,
         1 => removable < 4,
         2 => removable < 8,
@@ -375,14 +384,17 @@ fn removable_fits(n: u8, removable: u8) -> bool
     }
 }
 
-fn numbers_fit(n: u8, b: u8, powergood: u8, current: u8, removable: u8) -> bool
-    ensures { λ r. ⌜ r ≡ newFits n b powergood current removable ⌝ }
+fn numbers_fit(n: PortCount, b: BufferCount, powergood: u8, current: u8, removable: u8) -> bool
+    ensures { λ r. ⌜ r ≡ newFits (n .0) (b .0) powergood current removable ⌝ }
 {
-    if 7 < n {
+    if 7 < n.0 {
         return false;
     }
     logic::both(
-        logic::both(logic::both(1 <= n, n <= 7), logic::both(2 <= b, b <= 4)),
+        logic::both(
+            logic::both(1 <= n.0, n.0 <= 7),
+            logic::both(2 <= b.0, b.0 <= 4),
+        ),
         logic::both(removable % 2 == 0, removable_fits(n, removable)),
     )
 }
@@ -398,15 +410,21 @@ fn head_fits(area: &[u8]) -> bool
     ensures { λ r. ⌜ r ≡ headFits (now (area .entry)) ⌝ }
 {
     logic::both(
-        numbers_fit(area[0], area[1], area[2], area[3], area[4]),
+        numbers_fit(
+            PortCount(area[0]),
+            BufferCount(area[1]),
+            area[2],
+            area[3],
+            area[4],
+        ),
         logic::both(area[5] < 2, low_fits(area[6], area[7])),
     )
 }
 
-fn size_of(n: u8, b: u8) -> usize
-    ensures { λ r. ⌜ r ≡ 8 + n * 4 + b * 72 ⌝ }
+fn size_of(n: PortCount, b: BufferCount) -> usize
+    ensures { λ r. ⌜ r ≡ 8 + n .0 * 4 + b .0 * 72 ⌝ }
 {
-    8 + (n as usize) * 4 + (b as usize) * 72
+    8 + (n.0 as usize) * 4 + (b.0 as usize) * 72
 }
 
 // Whether the first bytes are within the rules, and the length is the one that they say.
@@ -417,7 +435,10 @@ fn is_sized(area: &[u8]) -> bool
     if size < 8 {
         return false;
     }
-    logic::both(head_fits(area), size == size_of(area[0], area[1]))
+    logic::both(
+        head_fits(area),
+        size == size_of(PortCount(area[0]), BufferCount(area[1])),
+    )
 }
 
 fn rows_fit(area: &[u8]) -> bool

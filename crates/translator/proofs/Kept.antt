@@ -70,6 +70,12 @@ pub result-le : (r : DeviceResult) (n : ℕ) → resultLength r n ≡ true → n
 unfolding resultLength
 result-le r n e = leb-true n 64 (and-eq-true-iff _ _ .0 e .0)
 
+pub slot-le : (s : Slot) (n : ℕ) → slotFits s n ≡ true → n ≤ 64
+slot-le Empty n e = omega (arith, eqb-true n 0 e)
+slot-le (Pending s p) n e = start-le s n e
+slot-le (Ready s r) n e = result-le r n (and-eq-true-iff (numbersFit s) (resultLength r n) .0 e .1)
+slot-le (Old s r) n e = result-le r n (and-eq-true-iff (numbersFit s) (resultLength r n) .0 e .1)
+
 -- ---- the empty translator
 
 vacant-whole : Whole vacant
@@ -370,7 +376,7 @@ module _ (t : Translator) (v : ValidTranslator t) where
           → ValidTranslator (cond x (record { next = record { buffers = set (t .buffers) (n .0) b; count = t .count; low = Idle }; answer = answer.Done }) (undelivered t answer.NotInThisState) .next)
       go true x =
           goes-on n b Idle (in-use t v isPending refl (n .0) w)
-          (record { fits = rw (numbers, x, len-of l (result-le r (length l) fits)) fits; zeros = zeros-of l })
+          (record { fits = rw (numbers, len-of l (result-le r (length l) fits)) fits; zeros = zeros-of l })
           (λ k. ap (holds k) (sym e)) (λ q. refl) (λ z x. ap (activeIn z) e ∙ x) tt
       go false x = v
 

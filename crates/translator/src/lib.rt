@@ -17,6 +17,7 @@ ghost use Rattle.translator.specs.ResetLane.{withoutLane, lowWithoutLane
 ghost use Rattle.translator.specs.Claims.{TranslatorClaims};
 ghost use Rattle.translator.specs.Cases.{CasesHold};
 use buffer::Buffer;
+use buffer::BufferCount;
 use buffer::BufferNumber;
 use buffer::DeviceResult;
 use buffer::Key;
@@ -142,11 +143,11 @@ fn look(sofar: Choice, standing: Standing, n: BufferNumber) -> Choice
 }
 
 // One pass over the slots of the first `count` buffers, in rising number.
-fn one_pass(slots: [Slot; 4], count: u8, key: Key) -> Searched
-    ensures { λ r. ⌜ r ≡ searched key (take count (bare slots)) ⌝ }
+fn one_pass(slots: [Slot; 4], count: BufferCount, key: Key) -> Searched
+    ensures { λ r. ⌜ r ≡ searched key (take (count .0) (bare slots)) ⌝ }
 {
     let lane = key.lane;
-    let used = count as usize;
+    let used = count.0 as usize;
     let mut choice = Choice::NoRoom;
     let mut active: u8 = 0;
     let mut i: usize = 0;
@@ -163,10 +164,10 @@ fn one_pass(slots: [Slot; 4], count: u8, key: Key) -> Searched
 }
 
 // Whether a lane that holds so many of the buffers pending or ready may store one more.
-fn may_store(count: u8, active: u8) -> bool
-    ensures { λ r. ⌜ r ≡ mayStore count active ⌝ }
+fn may_store(count: BufferCount, active: u8) -> bool
+    ensures { λ r. ⌜ r ≡ mayStore (count .0) active ⌝ }
 {
-    (active as usize) + 1 < count as usize
+    (active as usize) + 1 < count.0 as usize
 }
 
 impl Choice {
@@ -188,8 +189,8 @@ impl Choice {
 }
 
 // What a start-split under the key does.
-pub fn choose(slots: [Slot; 4], count: u8, key: Key) -> Choice
-    ensures { λ r. ⌜ r ≡ permitted count key (take count (bare slots)) ⌝ }
+pub fn choose(slots: [Slot; 4], count: BufferCount, key: Key) -> Choice
+    ensures { λ r. ⌜ r ≡ permitted (count .0) key (take (count .0) (bare slots)) ⌝ }
 {
     let found = one_pass(slots, count, key);
     let choice = found.choice;
@@ -197,10 +198,10 @@ pub fn choose(slots: [Slot; 4], count: u8, key: Key) -> Choice
 }
 
 // The buffer that holds a key.
-pub fn holder(slots: [Slot; 4], count: u8, key: Key) -> Found
-    ensures { λ r. ⌜ r ≡ find (holds key) (take count (bare slots)) ⌝ }
+pub fn holder(slots: [Slot; 4], count: BufferCount, key: Key) -> Found
+    ensures { λ r. ⌜ r ≡ find (holds key) (take (count .0) (bare slots)) ⌝ }
 {
-    let used = count as usize;
+    let used = count.0 as usize;
     let mut i: usize = 0;
     while i < 4 {
         if used <= i {
@@ -323,10 +324,10 @@ fn nearer(sofar: Earliest, slot: Slot, n: BufferNumber) -> Earliest
 }
 
 // The pending buffer with the lowest place, of the first `count`.
-pub fn earliest_of(slots: [Slot; 4], count: u8) -> Earliest
-    ensures { λ r. ⌜ r ≡ earliest (take count (bare slots)) ⌝ }
+pub fn earliest_of(slots: [Slot; 4], count: BufferCount) -> Earliest
+    ensures { λ r. ⌜ r ≡ earliest (take (count .0) (bare slots)) ⌝ }
 {
-    let used = count as usize;
+    let used = count.0 as usize;
     let mut sofar = Earliest::NonePending;
     let mut i: usize = 0;
     while i < 4 {
@@ -343,6 +344,12 @@ pub fn earliest_of(slots: [Slot; 4], count: u8) -> Earliest
 // ---- the decisions, by the slots alone
 
 impl Translator {
+    fn buffer_count(self) -> BufferCount
+        ensures { λ r. ⌜ r ≡ record { 0 = self .count } ⌝ }
+    {
+        BufferCount(self.count)
+    }
+
     pub fn slots(self) -> [Slot; 4]
         ensures { λ r. ⌜ r ≡ slotsIn (self .buffers) ⌝ }
     {
@@ -361,19 +368,19 @@ impl Translator {
     fn choose(self, key: Key) -> Choice
         ensures { λ r. ⌜ r ≡ permitted (self .count) key (take (self .count) (self .buffers)) ⌝ }
     {
-        choose(self.slots(), self.count, key)
+        choose(self.slots(), self.buffer_count(), key)
     }
 
     fn holder(self, key: Key) -> Found
         ensures { λ r. ⌜ r ≡ find (holds key) (take (self .count) (self .buffers)) ⌝ }
     {
-        holder(self.slots(), self.count, key)
+        holder(self.slots(), self.buffer_count(), key)
     }
 
     fn earliest(self) -> Earliest
         ensures { λ r. ⌜ r ≡ earliest (take (self .count) (self .buffers)) ⌝ }
     {
-        earliest_of(self.slots(), self.count)
+        earliest_of(self.slots(), self.buffer_count())
     }
 }
 
@@ -381,12 +388,12 @@ impl Translator {
 
 impl Translator {
     // Empty buffers, an idle low side.
-    pub fn new(count: u8) -> Translator
-        ensures { λ r. ⌜ r ≡ newTranslator count ⌝ }
+    pub fn new(count: BufferCount) -> Translator
+        ensures { λ r. ⌜ r ≡ newTranslator (count .0) ⌝ }
     {
         Translator {
             buffers: [Buffer::vacant(); 4],
-            count,
+            count: count.0,
             low: LowSide::Idle,
         }
     }
@@ -395,7 +402,7 @@ impl Translator {
     pub fn empty(self) -> Translator
         ensures { λ r. ⌜ r ≡ emptied self ⌝ }
     {
-        Translator::new(self.count)
+        Translator::new(self.buffer_count())
     }
 
     // Buffer n; past the last one, an empty one.
@@ -492,7 +499,7 @@ impl Translator {
         }
     }
 
-    // What a result gives: a data result the payload, a handshake none.
+    // A complete-split whose key buffer n holds.
     fn complete_at(self, n: BufferNumber) -> Completed
         ensures { λ r. ⌜ r ≡ completed self n (at (self .buffers) (n .0) .payload) (at (self .buffers) (n .0) .slot) ⌝ }
     {

@@ -5,24 +5,17 @@ use mathlib.Core.Path.{_≡_, refl, sym, _∙_, ap, subst}
 use mathlib.Core.Logic.{_↔_}
 use mathlib.Core.Option.{none, some}
 use mathlib.Core.List.{List, [], _∷_}
-use mathlib.Core.Bool.{Bool, true, false, cond, and-eq-true-iff, true≢false}
+use mathlib.Core.Bool.{Bool, true, false, cond, true≢false}
 use borrow.Author.Tests.{eqb-false, ne-eqb}
-use lib.Dec.{eqb, leb}
-use lib.ListN.{length, take}
+use lib.Dec.{eqb}
 use Rattle.buffer.specs.declared.Lane.{Lane}
-use Rattle.buffer.specs.declared.StartSplit.{StartSplit}
 use Rattle.buffer.specs.Key.{keyOf}
-use Rattle.buffer.specs.Lengths.{startFits}
-use Rattle.translator.specs.declared.Translator.{Translator}
 use Rattle.translator.specs.declared.Choice.{Choice}
 use Rattle.translator.specs.declared.Choice.the-variants as choice
 use Rattle.translator.specs.declared.StartAnswer.{StartAnswer}
-use Rattle.translator.specs.declared.StartAnswer.the-variants.{Chosen}
-use Rattle.translator.specs.Limit.{permitted}
-use Rattle.translator.specs.StartSplit.{startBy, startSplit}
 use Rattle.translator.specs.Answers.{startNumber}
 use Rattle.numbers.specs.Named.{laneFrom}
-use Rattle.numbers.specs.Split.{splitNamed, splitFrom}
+use Rattle.numbers.specs.Split.{splitFrom}
 use Rattle.request.specs.Request.{requestOf}
 use Rattle.hub.specs.declared.Hub.{Hub}
 use Rattle.hub.specs.Call.{Call, Control, Poll, Start, Complete, Launch, Deliver, Event, Tick, BusReset, Answer, Outcome, plainAnswer, pidAnswer}
@@ -31,32 +24,17 @@ use Rattle.hub.specs.Rules.{polled}
 use Rattle.hub.specs.Valid.{ValidHub}
 use Rattle.hub.specs.Step.{within, roomy, heard, fitting, served, step}
 use Rattle.runs.specs.Refusals.{outside, short, silent}
+use Rattle.runs.proofs.Outside.{outside-tells, short-tells}
 use Rattle.why.specs.declared.Reason.{Reason}
 use Rattle.why.specs.declared.Reason.the-variants.{Nothing, Number, HeldBy, Reused, TookFree, LimitReached, NoRoom, Changed, Wrong}
 use Rattle.why.specs.Said.{bitmapBy, SaidOfPoll, SaidOfRequest, NoReason, Said, Passes, TrueOf, number, says, isNumber, getsReason, enoughFor}
 use Rattle.why.specs.Why.{numbered, choiceReason, startReason, changesByPort, pollReason, requestReason, ruleReason, whyOf}
 use Rattle.why.specs.Claims.{KeysApart, WhyClaims}
 use Rattle.why.proofs.Passing.{number-due, due-answered, due-number, unnumbered-passes, passes-unnumbered, ByRule, by-rule}
-use Rattle.why.proofs.Starts.{start-enough, picked, picked-says, picked-true, picked-only}
+use Rattle.why.proofs.Starts.{start-enough, picked, picked-says, picked-true, picked-only, start-chosen}
+use Rattle.why.proofs.Stored.{why-stored}
 use Rattle.why.proofs.Requests.{request-true, request-only, wrong-enough, right-served}
 use Rattle.why.proofs.Polls.{poll-true, poll-only, poll-enough, poll-nothing}
-
--- ---- a start-split that passes is answered by what was chosen
-
-by-answer : (t : Translator) (s : StartSplit) (l : List ℕ) (c : Choice) → startBy t s l c .answer ≡ Chosen c
-by-answer t s l choice.NoRoom = refl
-by-answer t s l choice.LimitReached = refl
-by-answer t s l (choice.Held n) = refl
-by-answer t s l (choice.Reused n) = refl
-by-answer t s l (choice.Took n) = refl
-
-start-chosen : (h : Hub) (z p t f g a e : ℕ) (l : List ℕ) → within h (Start z p t f g a e l) ≡ true
-    → startSplit (h .translator) (splitFrom z p t f g a e) l .answer ≡ Chosen (permitted (h .translator .count) (keyOf (splitFrom z p t f g a e)) (take (h .translator .count) (h .translator .buffers)))
-unfolding within startSplit
-start-chosen h z p t f g a e l w =
-    let s : StartSplit = splitFrom z p t f g a e in
-    let fit : startFits s (length l) ≡ true = and-eq-true-iff (splitNamed z p t f g a e) (startFits s (length l)) .0 w .1 in
-    rw fit (by-answer (h .translator) s l (permitted (h .translator .count) (keyOf s) (take (h .translator .count) (h .translator .buffers))))
 
 no-reason : (r : Reason) → NoReason r → r ≡ Nothing
 no-reason Nothing s = refl
@@ -74,6 +52,12 @@ no-reason (Wrong w) s = absurd s
 is-true : (x : Bool) → ¬ (x ≡ false) → x ≡ true
 is-true true n = refl
 is-true false n = absurd (n refl)
+
+inside : (h : Hub) (c : Call) → Passes h c → within h c ≡ true
+inside h c p = is-true (within h c) (λ e. p outside (omega arith) (outside-tells h c .0 e))
+
+wide : (h : Hub) (c : Call) → Passes h c → roomy c ≡ true
+wide h c p = is-true (roomy c) (λ e. p short (omega arith) (short-tells c .0 e))
 
 none-for : (r : Reason) (a : Answer) → NoReason r → enoughFor r ≡ some a → ⊥
 none-for r a s e = let q : none ≡ some a = ap enoughFor (sym (no-reason r s)) ∙ e in let z : _≡_ {A = ℕ} 0 1 = cc in omega arith
@@ -108,16 +92,16 @@ module _ (h : Hub) (a : Answer) where
   enough : (r : Reason) (c : Call) → KeysApart h → enoughFor r ≡ some a → Passes h c → Said r h c → step h c .answer ≡ a
   unfolding roomy heard fitting served
   enough r (Control v s room) apart e p w =
-      let x = is-true (within h (Control v s room)) (p outside (omega arith)) in
-      let y = is-true (leb 64 room) (p short (omega arith)) in
+      let x = inside h (Control v s room) p in
+      let y = wide h (Control v s room) p in
       ap (λ (o : Outcome). o .answer) (passed h (Control v s room) x y refl refl) ∙ request-enough (laneFrom v) s r w e
   enough r (Poll v room) apart e p w =
-      let x = is-true (within h (Poll v room)) (p outside (omega arith)) in
-      let y = is-true (leb 64 room) (p short (omega arith)) in
+      let x = inside h (Poll v room) p in
+      let y = wide h (Poll v room) p in
       let z = is-true (h .configured) (p silent (omega arith)) in
       ap (λ (o : Outcome). o .answer) (passed h (Poll v room) x y z refl) ∙ changes-enough r w e
   enough r (Start v q t f g b n l) apart e p w =
-      let x = is-true (within h (Start v q t f g b n l)) (p outside (omega arith)) in
+      let x = inside h (Start v q t f g b n l) p in
       let z = is-true (h .configured) (p silent (omega arith)) in
       let k = keyOf (splitFrom v q t f g b n) in
       ap (λ (o : Outcome). o .answer) (passed h (Start v q t f g b n l) x refl z refl)
@@ -260,4 +244,5 @@ why-claims =
       only = λ r s h c v x y. is-why h v r c x ∙ sym (is-why h v s c y);
       enough = λ r a h c. enough h a r c;
       given = λ h c v. given h v c;
+      stored = why-stored;
     }

@@ -73,7 +73,7 @@ module _ (m : Marks) where
   items-same (explain c ∷ is) (explain d ∷ js) h g u tied e s = (why-same h g u c d tied e (s .0), items-same is js h g u tied e (s .1))
 
 hidden-with-reasons : (m : Marks) → HiddenWithReasons explaining m
-hidden-with-reasons m n is js s = items-same m is js [] (newHubOf n) (newHubOf n) (new-tied n) refl s
+hidden-with-reasons m n k is js e s = items-same m is js [] (newHubOf n) (newHubOf k) (new-tied n) (ap (hideH m) e) s
 
 -- ---- a tool that leaves all as it was
 
@@ -105,12 +105,12 @@ demand-3-with-reasons = with-reasons explaining (λ h c. refl) hidden-with-reaso
 -- ---- a layer above
 
 pub carried : (x : Explainer) → Demand2WithReasons x → (m : Marks) → HiddenWithReasons x m
-carried x d m n is js s =
-    subst (λ (a : List Seen). SameSeen m a (seen x n js)) (sym (d n is))
-    (subst (λ (b : List Seen). SameSeen m (ruled is) b) (sym (d n js))
-    (hidden-with-reasons m (x .machine .numbers n) (itemsOf (x .machine .call) is) (itemsOf (x .machine .call) js)
-    (subst (λ (b : List Seen). SameItems m [] (ruled is) b) (d n js)
-    (subst (λ (a : List Seen). SameItems m [] a (seen x n js)) (d n is) s))))
+carried x d m n k is js e s =
+    subst (λ (a : List Seen). SameSeen m a (seen x k js)) (sym (d n is))
+    (subst (λ (b : List Seen). SameSeen m (ruled n is) b) (sym (d k js))
+    (hidden-with-reasons m (x .machine .numbers n) (x .machine .numbers k) (itemsOf (x .machine .call) is) (itemsOf (x .machine .call) js) e
+    (subst (λ (b : List Seen). SameItems m [] (ruled n is) b) (d k js)
+    (subst (λ (a : List Seen). SameItems m [] a (seen x k js)) (d n is) s))))
   where
-    ruled : List (Item (x .machine .Asked)) → List Seen
-    ruled ks = seen explaining (x .machine .numbers n) (itemsOf (x .machine .call) ks)
+    ruled : x .machine .Made → List (Item (x .machine .Asked)) → List Seen
+    ruled j is = seen explaining (x .machine .numbers j) (itemsOf (x .machine .call) is)

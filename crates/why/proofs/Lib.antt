@@ -3,6 +3,7 @@ pub mod Starts
 pub mod Requests
 pub mod Polls
 pub mod Ways
+pub mod Stored
 pub mod Claimed
 pub mod ExplainedRuns
 pub mod ReadBack

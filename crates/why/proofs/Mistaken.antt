@@ -2,13 +2,15 @@
 use Prim.Native.Nat.{ℕ}
 use native.Mathlib.Omega.{arith}
 use mathlib.Core.Path.{_≡_, refl, ap}
-use mathlib.Core.Bool.{true≢false}
+use mathlib.Core.Bool.{true≢false, false≢true}
 use mathlib.Core.List.{List, [], _∷_}
-use lib.ListN.{getD}
+use lib.ListN.{length, getD}
+use Rattle.payload.specs.declared.Payload.{Payload}
 use Rattle.payload.specs.Payload.{payloadOf}
 use Rattle.buffer.specs.declared.Lane.the-variants.{Zero}
 use Rattle.buffer.specs.declared.Direction.the-variants as direction
 use Rattle.buffer.specs.Key.{sameKey}
+use Rattle.buffer.specs.Buffer.{isPending}
 use Rattle.buffer.specs.Lengths.{numbersFit, startFits, resultLength}
 use Rattle.port.specs.Reaction.{noChanges}
 use Rattle.ports.specs.Ports.{portAt, withPort}
@@ -27,11 +29,11 @@ use Rattle.request.specs.Table.{kindOf}
 use Rattle.request.specs.Request.{checked, requestOf}
 use Rattle.hub.specs.declared.Hub.{Hub}
 use Rattle.hub.specs.Hub.{newFits, newHub, configuredAs, tickedHub}
-use Rattle.hub.specs.Call.{Call, Poll, Start, Answer, plainAnswer}
+use Rattle.hub.specs.Call.{Call, Poll, Start, Launch, Answer, plainAnswer}
 use Rattle.hub.specs.Requests.{requested}
 use Rattle.hub.specs.Rules.{polled}
 use Rattle.hub.specs.Step.{within, roomy, heard, fitting, served, step}
-use Rattle.hub.specs.Cases.{setConfiguration1, setPortFeature, startIn, p4, p11, p12}
+use Rattle.hub.specs.Cases.{setConfiguration1, setPortFeature, startIn, startOut, completeIn, deliverData0, p4, p11, p12}
 use Rattle.runs.specs.History.{Event, keyOf}
 use Rattle.runs.specs.Machine.{newHubOf, rules, runFrom, afterFrom}
 use Rattle.runs.specs.Demand3.{onlyKey, start}
@@ -45,10 +47,10 @@ use Rattle.why.specs.declared.Reason.the-variants.{Nothing, Number, Took
 use Rattle.why.specs.Said.{Said, Passes, TrueOf, number, says}
 use Rattle.why.specs.Why.{numbered, changesByPort, pollReason, requestReason, ruleReason, whyOf}
 use Rattle.why.specs.Bytes.{bytesOf}
-use Rattle.why.specs.Claims.{WhyTrue, WhyEnough}
+use Rattle.why.specs.Claims.{WhyTrue, WhyEnough, payloadAt}
 use Rattle.why.specs.Cases.{buffer, connected, atPorts2And4, oldAbove}
 use Rattle.why.specs.ExplainedRuns.{make, explain, seenFrom, SameItems, SameSeen, makesOf, madeOf}
-use Rattle.why.specs.Mistakes.{noReason, numberAlways, otherBuffer, oldOccupied, limitUnnamed, port5Too, pastLastPort, valueFirst, indexFirst, WhyMistakesShutOut}
+use Rattle.why.specs.Mistakes.{noReason, numberAlways, otherBuffer, isOld, oldOccupied, limitUnnamed, port5Too, pastLastPort, valueFirst, indexFirst, WhyMistakesShutOut}
 use Rattle.why.proofs.Claimed.{why-claims}
 
 -- the bench hub after these calls
@@ -79,13 +81,19 @@ own-old-passes claim =
     let n : _≡_ {A = ℕ} 0 3 = ap (λ (a : Answer). a .number) z in
     omega (arith, n)
 
+-- devices 5 and 6 are old, in buffers 0 and 1; what device 6 was delivered is one byte
+two-old : List Call
+two-old =
+    setConfiguration1 ∷ startIn 5 1 ∷ startIn 6 1 ∷ Launch 64 ∷ deliverData0 [] ∷ Launch 64 ∷ deliverData0 (9 ∷ []) ∷ completeIn 5 1
+    ∷ completeIn 6 1 ∷ []
+
 -- the number of the first answer
 first-number : List Event → ℕ
 first-number [] = 0
 first-number (e ∷ es) = e .answer .number
 
 pub why-mistakes-shut-out : WhyMistakesShutOut
-unfolding hub-after first-number bench seenFrom SameItems SameSeen madeOf makesOf runFrom payloadOf sameKey numbersFit startFits resultLength portAt withPort front swept bitmapOf find chosen permitted pass tally ranked earliest stored startSplit completeSplit launch deliver resetLane splitNamed splitFrom keyNamed keyFrom kindOf checked requestOf newFits newHub configuredAs tickedHub requested polled within roomy heard fitting served step afterFrom numbered changesByPort pollReason requestReason ruleReason whyOf
+unfolding hub-after two-old first-number bench seenFrom SameItems SameSeen madeOf makesOf runFrom payloadOf sameKey numbersFit startFits resultLength portAt withPort front swept bitmapOf find chosen permitted pass tally ranked earliest stored startSplit completeSplit launch deliver resetLane splitNamed splitFrom keyNamed keyFrom kindOf checked requestOf newFits newHub configuredAs tickedHub requested polled within roomy heard fitting served step afterFrom numbered changesByPort pollReason requestReason ruleReason whyOf
 why-mistakes-shut-out =
     record {
       no-reason = λ t. let e : Nothing ≡ Number 5 = the-same noReason t [] (Poll 0 64) in let z : _≡_ {A = ℕ} 0 1 = cc in omega arith;
@@ -117,9 +125,26 @@ why-mistakes-shut-out =
           omega arith;
       own-old-passes = own-old-passes;
       none-given = λ t. true≢false (t (hub-after []) (Poll 0 64) (reached bench []) .0 refl);
+      highest-free = λ t.
+          let cs = setConfiguration1 ∷ [] in
+          false≢true (ap isPending (t (hub-after cs) 0 9 2 0 0 5 1 [] (reached bench cs) .pending));
+      without-payload = λ t.
+          let cs = setConfiguration1 ∷ [] in
+          let z : _≡_ {A = ℕ} 0 1 = ap length (t (hub-after cs) 0 1 2 0 0 5 1 (9 ∷ []) (reached bench cs) .payload) in
+          omega (arith, z);
+      old-emptied = λ t.
+          false≢true (ap isOld (t (hub-after two-old) 0 9 2 0 0 7 1 [] (reached bench two-old) .other-slots 1 (λ e. omega (arith, e))));
+      old-cleared = λ t.
+          let z : _≡_ {A = ℕ} 0 1 =
+          ap (λ (p : Payload). p .len) (t (hub-after two-old) 0 9 2 0 0 7 1 [] (reached bench two-old) .other-payloads 1 (λ e. omega (arith, e))) in
+          omega (arith, z);
+      repeat-stored = λ t.
+          let cs = setConfiguration1 ∷ startOut 5 1 (9 ∷ []) ∷ [] in
+          let z : _≡_ {A = ℕ} 0 1 = ap (λ (h : Hub). payloadAt h 0 .len) (t (hub-after cs) 0 1 2 0 0 5 1 [] (reached bench cs)) in
+          omega (arith, z);
       leaks = λ t.
           let e : Number 1 ≡ Number 2 =
-          t (onlyKey (keyOf Zero 5 1 direction.Out)) bench (explain (Start 0 1 2 0 0 5 1 (1 ∷ [])) ∷ []) (explain (Start 0 1 2 0 0 5 1 (2 ∷ [])) ∷ [])
+          t (onlyKey (keyOf Zero 5 1 direction.Out)) bench bench (explain (Start 0 1 2 0 0 5 1 (1 ∷ [])) ∷ []) (explain (Start 0 1 2 0 0 5 1 (2 ∷ [])) ∷ []) refl
           (start 0 1 2 0 0 5 1 (1 ∷ []) (2 ∷ []) refl refl, tt) .0 in
           let z : _≡_ {A = ℕ} 1 2 = cc in
           omega (arith, z);

@@ -3,7 +3,8 @@ use Prim.Native.Nat.{ℕ, _<_, _≤_}
 use native.Mathlib.Omega.{arith}
 use mathlib.Core.Path.{_≡_, refl, sym, _∙_, ap}
 use mathlib.Core.Option.{some}
-use mathlib.Core.Bool.{Bool, true, false, cond, true≢false, false≢true}
+use mathlib.Core.Bool.{Bool, true, false, cond, and-eq-true-iff, true≢false, false≢true}
+use mathlib.Core.List.{List}
 use borrow.Author.Tests.{ltb-true, ltb-false}
 use lib.Dec.{ltb}
 use lib.ListN.{length, take, length-take}
@@ -11,19 +12,25 @@ use Rattle.buffer.specs.declared.Key.{Key}
 use Rattle.buffer.specs.declared.Slot.{Slot}
 use Rattle.buffer.specs.declared.Slot.the-variants.{Empty, Pending, Ready, Old}
 use Rattle.buffer.specs.declared.BufferNumber.{BufferNumber}
+use Rattle.buffer.specs.declared.StartSplit.{StartSplit}
 use Rattle.buffer.specs.Key.{keyOf, sameKey}
+use Rattle.buffer.specs.Lengths.{startFits}
 use Rattle.buffer.specs.Buffer.{isActive, isFree, holds}
 use Rattle.buffer.proofs.Keys.{same-true, same-eq, same-ne}
 use Rattle.translator.specs.declared.Choice.{Choice}
 use Rattle.translator.specs.declared.Choice.the-variants as choice
+use Rattle.translator.specs.declared.StartAnswer.the-variants.{Chosen}
 use Rattle.translator.specs.declared.Translator.{Translator}
 use Rattle.translator.specs.Limit.{permitted}
+use Rattle.translator.specs.StartSplit.{startBy, startSplit}
 use Rattle.translator.specs.Valid.{Apart}
 use Rattle.translator.proofs.Finding.{Hit, Miss, Holder, ChosenSays, TookLowest, permitted-lowest, may-store, may-not-store, isHeld, PermittedSays, permitted-says}
 use Rattle.hub.specs.declared.Hub.{Hub}
 use Rattle.translator.specs.Answers.{choiceNumber}
-use Rattle.hub.specs.Call.{Answer, plainAnswer}
+use Rattle.numbers.specs.Split.{splitNamed, splitFrom}
+use Rattle.hub.specs.Call.{Start, Answer, plainAnswer}
 use Rattle.hub.specs.Valid.{ValidHub}
+use Rattle.hub.specs.Step.{within}
 use Rattle.runs.specs.Refusals.{slotAt}
 use Rattle.why.specs.declared.Reason.{Reason}
 use Rattle.why.specs.declared.Reason.the-variants.{Nothing, Number, HeldBy, Reused, TookFree, LimitReached, NoRoom, Changed, Wrong}
@@ -296,3 +303,20 @@ picked-true h valid k = start-true h k (valid .translator .keys k) (picked h k) 
 
 pub picked-only : (h : Hub) → ValidHub h → (k : Key) (r : Reason) → SaidOfStart r h k → r ≡ choiceReason (picked h k)
 picked-only h valid k r s = start-only h valid k r (picked h k) s (picked-says h k) (permitted-lowest (h .translator .count) k (h .translator .count) (h .translator .buffers))
+
+-- ---- a start-split that passes is answered by what was chosen
+
+by-answer : (t : Translator) (s : StartSplit) (l : List ℕ) (c : Choice) → startBy t s l c .answer ≡ Chosen c
+by-answer t s l choice.NoRoom = refl
+by-answer t s l choice.LimitReached = refl
+by-answer t s l (choice.Held n) = refl
+by-answer t s l (choice.Reused n) = refl
+by-answer t s l (choice.Took n) = refl
+
+pub start-chosen : (h : Hub) (z p t f g a e : ℕ) (l : List ℕ) → within h (Start z p t f g a e l) ≡ true
+    → startSplit (h .translator) (splitFrom z p t f g a e) l .answer ≡ Chosen (picked h (keyOf (splitFrom z p t f g a e)))
+unfolding within startSplit
+start-chosen h z p t f g a e l w =
+    let s : StartSplit = splitFrom z p t f g a e in
+    let fit : startFits s (length l) ≡ true = and-eq-true-iff (splitNamed z p t f g a e) (startFits s (length l)) .0 w .1 in
+    rw fit (by-answer (h .translator) s l (picked h (keyOf s)))

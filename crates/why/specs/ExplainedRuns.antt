@@ -6,7 +6,7 @@ use Rattle.buffer.specs.declared.Lane.{Lane}
 use Rattle.buffer.specs.declared.Key.{Key}
 use Rattle.hub.specs.Call.{Call}
 use Rattle.runs.specs.History.{Event, History, lastFor}
-use Rattle.runs.specs.Machine.{Machine, rules, run}
+use Rattle.runs.specs.Machine.{Machine, newHubOf, rules, run}
 use Rattle.runs.specs.Demand3.{Marks, onlyKey, everyKeyOf, SameCall, SameAnswer, AllExplained}
 use Rattle.runs.specs.Order.{AllOrdered}
 use Rattle.why.specs.declared.Reason.{Reason}
@@ -60,8 +60,8 @@ SameSeen m (explained c r ∷ es) (explained d s ∷ fs) = (r ≡ s) × SameSeen
 -- same answer or the same reason in both, except those bytes.
 abbrev pub HiddenWithReasons : Explainer → Marks → Type 0
 HiddenWithReasons x m =
-    (n : x .machine .Made) (is js : List (Item (x .machine .Asked))) → SameItems m [] (seen x n is) (seen x n js)
-    → SameSeen m (seen x n is) (seen x n js)
+    (n k : x .machine .Made) (is js : List (Item (x .machine .Asked))) → newHubOf (x .machine .numbers n) ≡ newHubOf (x .machine .numbers k)
+    → SameItems m [] (seen x n is) (seen x k js) → SameSeen m (seen x n is) (seen x k js)
 
 -- the calls that are made, and what is seen of them
 unfoldable pub makesOf : {A : Type 0} → List (Item A) → List A

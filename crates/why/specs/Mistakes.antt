@@ -1,18 +1,29 @@
 -- Tools and rules with one mistake. A reader must believe: each is a mistake, and the claim named shuts it out.
 use Prim.Native.Nat.{ℕ, _+_}
 use mathlib.Core.Bool.{Bool, true, false, cond}
-use mathlib.Core.List.{List, [], _∷_}
-use lib.ListN.{getD}
+use mathlib.Core.List.{List, [], _∷_, map}
+use lib.ListN.{take, getD}
+use Rattle.payload.specs.Payload.{noPayload}
+use Rattle.buffer.specs.declared.Key.{Key}
+use Rattle.buffer.specs.declared.Buffer.{Buffer}
 use Rattle.buffer.specs.declared.BufferNumber.{BufferNumber}
 use Rattle.buffer.specs.declared.Slot.{Slot}
 use Rattle.buffer.specs.declared.Slot.the-variants.{Empty, Pending, Ready, Old}
+use Rattle.buffer.specs.Key.{keyOf}
+use Rattle.buffer.specs.Buffer.{isFree}
+use Rattle.translator.specs.declared.Found.the-variants.{Nowhere, At}
+use Rattle.translator.specs.declared.Choice.{Choice}
+use Rattle.translator.specs.declared.Choice.the-variants as choice
+use Rattle.translator.specs.Search.{chooseFree, pass}
+use Rattle.translator.specs.Limit.{permitted}
+use Rattle.translator.specs.StartSplit.{startBy, startSplit}
 use Rattle.hub.specs.declared.Hub.{Hub}
 use Rattle.hub.specs.Call.{Call, Control, Poll, Start, Complete, Launch, Deliver, Event, Tick, BusReset}
 use Rattle.hub.specs.Step.{step}
 use Rattle.runs.specs.Machine.{rules}
 use Rattle.runs.specs.Refusals.{slotAt}
 use Rattle.runs.specs.Demand3.{Marks}
-use Rattle.runs.specs.Altered.{stepBy}
+use Rattle.runs.specs.Altered.{TranslatorRules, withStart, stepBy}
 use Rattle.runs.specs.LaneMistakes.{startingBy, ownOldPasses}
 use Rattle.why.specs.declared.RequestFault.{RequestFault}
 use Rattle.why.specs.declared.RequestFault.the-variants as wrong
@@ -21,7 +32,7 @@ use Rattle.why.specs.declared.Reason.{Reason}
 use Rattle.why.specs.declared.Reason.the-variants.{Nothing, Number, HeldBy, Reused, TookFree, LimitReached, NoRoom, Changed, Wrong}
 use Rattle.why.specs.Said.{right}
 use Rattle.why.specs.Why.{numbered, whyOf}
-use Rattle.why.specs.Claims.{WhyTrue, WhyEnough, WhyGiven}
+use Rattle.why.specs.Claims.{WhyTrue, WhyEnough, WhyGiven, WhyStored}
 use Rattle.why.specs.Cases.{connected}
 use Rattle.why.specs.ExplainedRuns.{Explainer, HiddenWithReasons, NotMade}
 
@@ -110,6 +121,48 @@ valueFirst = inOrder (wrong.TypeOrCode ∷ wrong.Value ∷ wrong.Unconfigured �
 abbrev pub indexFirst : Hub → Call → Reason
 indexFirst = inOrder (wrong.TypeOrCode ∷ wrong.Unconfigured ∷ wrong.Index ∷ wrong.Value ∷ wrong.Length ∷ [])
 
+-- ---- rules that store otherwise than the reason says
+
+-- in the highest-numbered empty or old buffer
+abbrev pub fromTop : List Buffer → Choice → Choice
+fromTop bs choice.NoRoom = choice.NoRoom
+fromTop bs choice.LimitReached = choice.LimitReached
+fromTop bs (choice.Held n) = choice.Held n
+fromTop bs (choice.Reused n) = choice.Reused n
+fromTop bs (choice.Took n) = chooseFree (pass (λ f s m. cond (isFree s) (At m) f) 0 Nowhere bs)
+
+abbrev pub highestFree : ℕ → Key → List Buffer → Choice
+highestFree b k bs = fromTop bs (permitted b k bs)
+
+-- a repeat is stored again
+abbrev pub heldReused : Choice → Choice
+heldReused choice.NoRoom = choice.NoRoom
+heldReused choice.LimitReached = choice.LimitReached
+heldReused (choice.Held n) = choice.Reused n
+heldReused (choice.Reused n) = choice.Reused n
+heldReused (choice.Took n) = choice.Took n
+
+abbrev pub repeatStored : ℕ → Key → List Buffer → Choice
+repeatStored b k bs = heldReused (permitted b k bs)
+
+-- without its payload
+abbrev pub withoutPayload : TranslatorRules
+withoutPayload = withStart (λ t s l. startBy t s [] (permitted (t .count) (keyOf s) (take (t .count) (t .buffers))))
+
+-- each buffer is changed too, after every start-split
+abbrev pub changing : (Buffer → Buffer) → TranslatorRules
+changing f =
+    withStart (λ t s l.
+    let o = startSplit t s l in
+    record { next = record { buffers = map f (o .next .buffers); count = o .next .count; low = o .next .low }; answer = o .answer })
+
+-- an old one is emptied, or loses its payload
+abbrev pub oldEmptied : Buffer → Buffer
+oldEmptied b = record { slot = cond (isOld (b .slot)) Empty (b .slot); payload = b .payload }
+
+abbrev pub oldCleared : Buffer → Buffer
+oldCleared b = record { slot = b .slot; payload = cond (isOld (b .slot)) noPayload (b .payload) }
+
 -- ---- tools in runs
 
 -- it shows the first payload byte of an explained start-split
@@ -143,5 +196,11 @@ pub record WhyMistakesShutOut : Type 0 where
   -- a rule that reuses an own old buffer past the limit: the limit isn't enough for 3
   pub own-old-passes : ¬ (WhyEnough (stepBy (startingBy ownOldPasses)))
   pub none-given : ¬ (WhyGiven step noReason)
+  -- another buffer holds it than the one that is named
+  pub highest-free : ¬ (WhyStored (stepBy (startingBy highestFree)) whyOf)
+  pub without-payload : ¬ (WhyStored (stepBy withoutPayload) whyOf)
+  pub old-emptied : ¬ (WhyStored (stepBy (changing oldEmptied)) whyOf)
+  pub old-cleared : ¬ (WhyStored (stepBy (changing oldCleared)) whyOf)
+  pub repeat-stored : ¬ (WhyStored (stepBy (startingBy repeatStored)) whyOf)
   pub leaks : ¬ ((m : Marks) → HiddenWithReasons leaking m)
   pub makes : ¬ (NotMade making)

@@ -202,7 +202,7 @@ fn request_reason(hub: Hub, bytes: [u8; 8]) -> Reason
     let kind = request::kind_of(s.requesttype, s.code);
     if kind.is_known() {
         if logic::either(hub.configured, served_unconfigured(kind)) {
-            own_fault(request::read(bytes, hub.identity.ports))
+            own_fault(request::read(bytes, hub.port_count()))
         } else {
             Reason::Wrong(RequestFault::Unconfigured)
         }

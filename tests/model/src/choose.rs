@@ -484,7 +484,7 @@ impl Chooser {
                 Buffer::Pending { start, payload, place: self.random.byte() }
             }
             status => {
-                let outcome = self.any_outcome(token);
+                let outcome = self.any_outcome();
                 if status == 3 {
                     Buffer::Ready(start, outcome)
                 } else {
@@ -494,22 +494,19 @@ impl Chooser {
         }
     }
 
-    /// A result that suits the PID.
-    fn any_outcome(&mut self, token: Token) -> Outcome {
+    /// A result that suits the PID, or one that doesn't.
+    fn any_outcome(&mut self) -> Outcome {
         let length = self.random.within(0..=64);
         let bytes = self.random.bytes(length);
-        let outcomes: &[Outcome] = match token {
-            Token::In => &[
-                Outcome::Data(Toggle::Data0, bytes.clone()),
-                Outcome::Data(Toggle::Data1, bytes),
-                Outcome::Nak,
-                Outcome::Stall,
-                Outcome::Failure,
-            ],
-            Token::Out => &[Outcome::Ack, Outcome::Nak, Outcome::Stall, Outcome::Failure],
-            Token::Setup => &[Outcome::Ack, Outcome::Failure],
-        };
-        self.random.pick(outcomes)
+        let outcomes = [
+            Outcome::Failure,
+            Outcome::Ack,
+            Outcome::Data(Toggle::Data0, bytes.clone()),
+            Outcome::Nak,
+            Outcome::Data(Toggle::Data1, bytes),
+            Outcome::Stall,
+        ];
+        self.random.pick(&outcomes)
     }
 
     /// The hub's written form with damage, and what was damaged.

@@ -12,7 +12,7 @@ use crate::recordings::Recordings;
 use crate::request::Request;
 use crate::situations::SITUATIONS;
 use crate::table::{Table, Unreachable, ANSWERS};
-use crate::translator::{Buffer, Direction, Key, LowSide, Token};
+use crate::translator::{Buffer, Direction, Key, LowSide, Outcome, Toggle, Token};
 
 /// One call of a session: the hub before and after it.
 pub struct Step<'a> {
@@ -28,6 +28,7 @@ pub struct Coverage {
     ports: Table,
     translator: Table,
     keys: Table,
+    results: Table,
     answers: Table,
     damage: Table,
     carriers: Table,
@@ -260,6 +261,12 @@ const KEY_CALLS: [[&str; 2]; 7] = [
 /// is free, none and none free, waiting to be launched, running, ready, old.
 const KEY_STATES: [&str; 7] = ["other's", "none", "full", "waiting", "running", "ready", "old"];
 
+/// A buffer with a result, by its status and PID.  Sessions reach the results
+/// that suit the PID; areas hold the others too.
+const FINISHED: [[&str; 3]; 2] =
+    [["ready IN", "ready OUT", "ready SETUP"], ["old IN", "old OUT", "old SETUP"]];
+const RESULTS: [&str; 6] = ["failure", "ACK", "DATA0", "NAK", "DATA1", "STALL"];
+
 const DAMAGE_ENDS: [&str; 2] = ["refused", "taken"];
 const SEVERAL: &str = "several bytes";
 const LENGTH: &str = "length";
@@ -330,6 +337,11 @@ impl Coverage {
                 "Keys: answers by call and the key's buffer",
                 KEY_CALLS.into_iter().flatten(),
                 KEY_STATES,
+            ),
+            results: Table::new(
+                "Complete-splits: answers by the buffer and its result",
+                FINISHED.into_iter().flatten(),
+                RESULTS,
             ),
             answers: Table::new("Calls by answer", CALLS, ANSWERS)
                 .showing_visits()
@@ -410,6 +422,11 @@ impl Coverage {
     ) {
         self.answer(call, answer);
         self.explained.count(hub, call, reason, answer.number);
+        if matches!(answer.number, answer::DATA | answer::HANDSHAKE) {
+            if let Some((row, column)) = hub.and_then(|hub| completed(hub, call)) {
+                self.results.visit(row, column, answer.number);
+            }
+        }
     }
 
     fn answer(&mut self, call: &Call, answer: &Answer) {
@@ -456,6 +473,7 @@ impl Coverage {
             &self.ports,
             &self.translator,
             &self.keys,
+            &self.results,
             &self.answers,
             &self.damage,
             &self.carriers,
@@ -645,6 +663,27 @@ fn key_call(step: &Step) -> Option<(&'static str, Key)> {
         },
     };
     Some((KEY_CALLS[row][key.lane as usize], key))
+}
+
+/// Status and PID of the buffer that a complete-split is for, and its result.
+fn completed(hub: &Hub, call: &Call) -> Option<(&'static str, &'static str)> {
+    let Call::CompleteSplit { lane, address, endpoint, direction, .. } = call else { return None };
+    let key = Key::from_numbers(*lane, *address, *endpoint, *direction)?;
+    let buffer = &hub.translator.buffers[hub.translator.find(key)?];
+    let row = match buffer.start()?.token {
+        Token::In => 0,
+        Token::Out => 1,
+        Token::Setup => 2,
+    };
+    let column = match buffer.outcome()? {
+        Outcome::Failure => 0,
+        Outcome::Ack => 1,
+        Outcome::Data(Toggle::Data0, _) => 2,
+        Outcome::Nak => 3,
+        Outcome::Data(Toggle::Data1, _) => 4,
+        Outcome::Stall => 5,
+    };
+    Some((FINISHED[usize::from(buffer.is_free())][row], RESULTS[column]))
 }
 
 fn key_state(hub: &Hub, key: Key) -> &'static str {

@@ -2,7 +2,7 @@
 
 use crate::hub::{Hub, StartNumbers};
 use crate::port::{Change, Port, Speed, State, RESET_END, RESUME_END};
-use crate::translator::{Buffer, LowSide, Outcome, Start, Translator};
+use crate::translator::{Buffer, LowSide, Outcome, Translator};
 
 pub const HEADER: usize = 8;
 pub const PORT: usize = 4;
@@ -149,16 +149,15 @@ fn read_buffer(bytes: &[u8]) -> Option<Buffer> {
     }
     .understand()?;
     let payload = bytes.get(..usize::from(length))?;
-    let finished = |start: Start| {
-        let outcome = Outcome::from_number(last.into(), payload)?;
-        outcome.suits(start.token).then_some((start, outcome))
-    };
+    // A result has to suit the PID when it is delivered; no number or length
+    // of the area depends on that.
+    let outcome = || Outcome::from_number(last.into(), payload);
     match status {
         1 if start.permits_payload(payload.len()) => {
             Some(Buffer::Pending { start, payload: payload.to_vec(), place: last })
         }
-        2 => finished(start).map(|(start, outcome)| Buffer::Ready(start, outcome)),
-        3 => finished(start).map(|(start, outcome)| Buffer::Old(start, outcome)),
+        2 => outcome().map(|outcome| Buffer::Ready(start, outcome)),
+        3 => outcome().map(|outcome| Buffer::Old(start, outcome)),
         _ => None,
     }
 }

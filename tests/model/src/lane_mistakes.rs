@@ -371,22 +371,22 @@ pub fn fields_before_lane(call: &Call, lent: &mut Lent) -> RawAnswer {
     }
 }
 
-/// The places of the buffers' flags in an area with a hub's length.
-fn flags(lent: &Lent) -> impl Iterator<Item = usize> {
+/// The places of the buffers in an area with a hub's length.
+fn buffers(lent: &Lent) -> impl Iterator<Item = usize> {
     let area = lent.area.bytes();
     let (ports, buffers) = match *area {
         [ports, buffers, ..] => (ports.into(), buffers.into()),
         _ => (0, 0),
     };
     let fits = area.len() == form::length(ports, buffers);
-    (0..buffers).filter(move |_| fits).map(move |number| form::length(ports, number) + 3)
+    (0..buffers).filter(move |_| fits).map(move |number| form::length(ports, number))
 }
 
 /// The last buffer of a crowded area is seen in the other lane.
 pub fn crowded_taken(call: &Call, lent: &mut Lent) -> RawAnswer {
-    let Some(last) = flags(lent).last() else { return Linked.call(call, lent) };
+    let Some(last) = buffers(lent).last() else { return Linked.call(call, lent) };
     let mut seen = lent.clone();
-    seen.area.bytes_mut()[last] ^= form::LANE_BIT;
+    seen.area.bytes_mut()[last + 3] ^= form::LANE_BIT;
     let is_crowded = |hub: Hub| {
         let last = hub.translator.limit();
         matches!(damage::lane_flip(&hub, last), Damage::Crowded(..))
@@ -396,7 +396,7 @@ pub fn crowded_taken(call: &Call, lent: &mut Lent) -> RawAnswer {
 }
 
 /// Refuses the area of a hub that `met` names.
-fn refusing(call: &Call, lent: &mut Lent, met: fn(&Translator) -> bool) -> RawAnswer {
+pub fn refusing(call: &Call, lent: &mut Lent, met: fn(&Translator) -> bool) -> RawAnswer {
     match read(lent) {
         Some(hub) if met(&hub.translator) => REFUSED,
         _ => Linked.call(call, lent),
@@ -414,13 +414,11 @@ pub fn twins_refused(call: &Call, lent: &mut Lent) -> RawAnswer {
     refusing(call, lent, lanes::has_twins)
 }
 
-/// Makes the call on an area whose buffers' flags `mended` gives, from their
-/// statuses and flags.
-fn with_flags(call: &Call, lent: &mut Lent, mended: fn(u8, u8) -> u8) -> RawAnswer {
+/// Makes the call on an area whose buffers `mend` has changed.
+pub fn mended(call: &Call, lent: &mut Lent, mend: fn(&mut [u8])) -> RawAnswer {
     let mut seen = lent.clone();
-    for place in flags(lent) {
-        let area = seen.area.bytes_mut();
-        area[place] = mended(area[place - 3], area[place]);
+    for place in buffers(lent) {
+        mend(&mut seen.area.bytes_mut()[place..place + form::BUFFER]);
     }
     let answer = Linked.call(call, &mut seen);
     if !answer::is_refusal(answer.number) {
@@ -431,12 +429,13 @@ fn with_flags(call: &Call, lent: &mut Lent, mended: fn(u8, u8) -> u8) -> RawAnsw
 
 /// Bit 3 of the flags.
 pub fn flag_ignored(call: &Call, lent: &mut Lent) -> RawAnswer {
-    with_flags(call, lent, |_, flags| flags & !8)
+    mended(call, lent, |buffer| buffer[3] &= !8)
 }
 
 pub fn empty_lane_ignored(call: &Call, lent: &mut Lent) -> RawAnswer {
-    with_flags(call, lent, |status, flags| match status {
-        0 => flags & !form::LANE_BIT,
-        _ => flags,
+    mended(call, lent, |buffer| {
+        if buffer[0] == 0 {
+            buffer[3] &= !form::LANE_BIT;
+        }
     })
 }

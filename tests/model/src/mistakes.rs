@@ -5,6 +5,7 @@ use crate::form;
 use crate::hub::Call;
 use crate::lane_mistakes as lanes;
 use crate::library::{Lent, Library, Linked, RawAnswer};
+use crate::translator::Buffer;
 
 /// Makes the call on the linked library, with the mistake.
 type Wrong = fn(&Call, &mut Lent) -> RawAnswer;
@@ -25,6 +26,8 @@ const MISTAKES: &[(&str, Mistaken)] = &[
     ("a reply byte behind the data written", Mistaken(reply_overwritten)),
     ("a byte behind the area written", Mistaken(guard_overwritten)),
     ("an unused mark ignored", Mistaken(mark_ignored)),
+    ("area with a result that does not suit its PID refused", Mistaken(unsuited_refused)),
+    ("area with a payload on a handshake taken", Mistaken(payload_passed_over)),
     ("a field given that does not apply", Mistaken(field_given)),
     ("a failure not shown as STALL", Mistaken(failure_shown)),
     ("lane ignored by a complete-split's key", Mistaken(lanes::complete_without_lane)),
@@ -227,6 +230,26 @@ fn mark_ignored(call: &Call, lent: &mut Lent) -> RawAnswer {
         *marks &= 0x7F;
     }
     Linked.call(call, lent)
+}
+
+fn unsuited_refused(call: &Call, lent: &mut Lent) -> RawAnswer {
+    lanes::refusing(call, lent, |translator| {
+        translator.buffers.iter().any(|buffer| match buffer {
+            Buffer::Ready(start, outcome) | Buffer::Old(start, outcome) => {
+                !outcome.suits(start.token)
+            }
+            _ => false,
+        })
+    })
+}
+
+/// A result without data that has a payload is read as DATA0.
+fn payload_passed_over(call: &Call, lent: &mut Lent) -> RawAnswer {
+    lanes::mended(call, lent, |buffer| {
+        if matches!(buffer[..form::BUFFER_HEAD], [2 | 3, .., 0 | 2 | 10 | 14, 1..=64]) {
+            buffer[6] = 3;
+        }
+    })
 }
 
 fn field_given(call: &Call, lent: &mut Lent) -> RawAnswer {

@@ -37,8 +37,8 @@ holder-requires c κs = search needs
 enum-told : tie.Need-enum-told
 enum-told c = search needs
 
-plain-answer-requires-2 : tie.Need-plain-answer-requires-2
-plain-answer-requires-2 c κs = search needs
+uncompleted-requires : tie.Need-uncompleted-requires
+uncompleted-requires c κs = search needs
 
 enum-known-n : tie.Need-enum-known-n
 enum-known-n c = search needs
@@ -49,14 +49,14 @@ buffer-at-requires c κs = search needs
 enum-told-2 : tie.Need-enum-told-2
 enum-told-2 c = search needs
 
-plain-answer-requires-3 : tie.Need-plain-answer-requires-3
-plain-answer-requires-3 c κs = search needs
+uncompleted-requires-2 : tie.Need-uncompleted-requires-2
+uncompleted-requires-2 c κs = search needs
 
 enum-told-3 : tie.Need-enum-told-3
 enum-told-3 c = search needs
 
-plain-answer-requires-4 : tie.Need-plain-answer-requires-4
-plain-answer-requires-4 c κs = search needs
+uncompleted-requires-3 : tie.Need-uncompleted-requires-3
+uncompleted-requires-3 c κs = search needs
 
 enum-known-slot : tie.Need-enum-known-slot
 enum-known-slot c = search needs
@@ -82,7 +82,7 @@ returns-2 c =
     let k = f .before .before .before .before in
     let s = k .before .before .before .before .before .before .before in
     nowhere _ (s .pre) _ (k .before .before .head-at .ensures) _ _ _ _ (k .before .before .before .before .key-named .ensures) _ (k .before .first-refusal .ensures)
-    (k .if1 .left) _ (f .before .before .slots-at .ensures) _ (f .before .key-of .ensures) (f .holder .ensures) (c .before .enum-told .given .1) _ (c .plain-answer2 .ensures)
+    (k .if1 .left) _ (f .before .before .slots-at .ensures) _ (f .before .key-of .ensures) (f .holder .ensures) (c .before .enum-told .given .1) _ (c .uncompleted .ensures)
 
 same-length-3 : tie.Need-same-length-3
 same-length-3 c = search needs
@@ -94,7 +94,7 @@ returns-3 c =
     let k = f .before .before .before .before in
     let s = k .before .before .before .before .before .before .before in
     on-empty _ (s .pre) _ (k .before .before .head-at .ensures) _ _ _ _ (k .before .before .before .before .key-named .ensures) _ (k .before .first-refusal .ensures)
-    (k .if1 .left) _ (f .before .before .slots-at .ensures) _ (f .before .key-of .ensures) (f .holder .ensures) (b .before .before .before .n .given .1) _ (b .buffer-at .ensures) (c .before .enum-told2 .given .1) _ (c .plain-answer3 .ensures)
+    (k .if1 .left) _ (f .before .before .slots-at .ensures) _ (f .before .key-of .ensures) (f .holder .ensures) (b .before .before .before .n .given .1) _ (b .buffer-at .ensures) (c .before .enum-told2 .given .1) _ (c .uncompleted2 .ensures)
 
 same-length-4 : tie.Need-same-length-4
 same-length-4 c = search needs
@@ -106,7 +106,7 @@ returns-4 c =
     let k = f .before .before .before .before in
     let s = k .before .before .before .before .before .before .before in
     on-pending _ (s .pre) _ (k .before .before .head-at .ensures) _ _ _ _ (k .before .before .before .before .key-named .ensures) _ (k .before .first-refusal .ensures)
-    (k .if1 .left) _ (f .before .before .slots-at .ensures) _ (f .before .key-of .ensures) (f .holder .ensures) (b .before .before .before .n .given .1) _ (b .buffer-at .ensures) (c .before .enum-told3 .given .1) _ (c .plain-answer4 .ensures)
+    (k .if1 .left) _ (f .before .before .slots-at .ensures) _ (f .before .key-of .ensures) (f .holder .ensures) (b .before .before .before .n .given .1) _ (b .buffer-at .ensures) (c .before .enum-told3 .given .1) _ (c .uncompleted3 .ensures)
 
 same-length-5 : tie.Need-same-length-5
 same-length-5 c = search needs
@@ -155,13 +155,13 @@ complete-split-spec =
     key-of-requires
     holder-requires
     enum-told
-    plain-answer-requires-2
+    uncompleted-requires
     enum-known-n
     buffer-at-requires
     enum-told-2
-    plain-answer-requires-3
+    uncompleted-requires-2
     enum-told-3
-    plain-answer-requires-4
+    uncompleted-requires-3
     enum-known-slot
     put-old-requires
     give-result-requires

@@ -40,8 +40,8 @@ returns c =
 enum-told : tie.Need-enum-told
 enum-told c = search needs
 
-plain-answer-requires-2 : tie.Need-plain-answer-requires-2
-plain-answer-requires-2 c κs = search needs
+delivered-requires : tie.Need-delivered-requires
+delivered-requires c κs = search needs
 
 enum-known-low : tie.Need-enum-known-low
 enum-known-low c = search needs
@@ -52,8 +52,8 @@ slot-at-requires c κs = search needs
 enum-told-2 : tie.Need-enum-told-2
 enum-told-2 c = search needs
 
-plain-answer-requires-3 : tie.Need-plain-answer-requires-3
-plain-answer-requires-3 c κs = search needs
+delivered-requires-2 : tie.Need-delivered-requires-2
+delivered-requires-2 c κs = search needs
 
 enum-known-slot : tie.Need-enum-known-slot
 enum-known-slot c = search needs
@@ -64,8 +64,8 @@ suits-requires c κs = search needs
 put-result-requires : tie.Need-put-result-requires
 put-result-requires c κs = search needs
 
-plain-answer-requires-4 : tie.Need-plain-answer-requires-4
-plain-answer-requires-4 c κs = search needs
+delivered-requires-3 : tie.Need-delivered-requires-3
+delivered-requires-3 c κs = search needs
 
 same-length-2 : tie.Need-same-length-2
 same-length-2 c = search needs
@@ -80,22 +80,22 @@ returns-2 c =
     suited _ (s .pre) _ (k .before .before .head-at .ensures) _ _ _ (q .before .before .before .result-of .ensures)
     (q .both .ensures ∙ rw (q .before .before .is-result .ensures, q .before .carries .ensures)) (k .before .first-refusal .ensures)
     (k .if1 .left) (b .before .before .before .low .given .1) _ (b .slot-at .ensures) (w .before .before .before .before .before .slot .given .1) (w .before .before .before .suits .ensures) (w .before .before .if2 .taken) _ _
-    (c .plain-answer4 .ensures) (w .put-result .ensures)
+    (c .delivered3 .ensures) (w .put-result .ensures)
 
-plain-answer-requires-5 : tie.Need-plain-answer-requires-5
-plain-answer-requires-5 c κs = search needs
+delivered-requires-4 : tie.Need-delivered-requires-4
+delivered-requires-4 c κs = search needs
 
 enum-told-3 : tie.Need-enum-told-3
 enum-told-3 c = search needs
 
-plain-answer-requires-6 : tie.Need-plain-answer-requires-6
-plain-answer-requires-6 c κs = search needs
+delivered-requires-5 : tie.Need-delivered-requires-5
+delivered-requires-5 c κs = search needs
 
 enum-told-4 : tie.Need-enum-told-4
 enum-told-4 c = search needs
 
-plain-answer-requires-7 : tie.Need-plain-answer-requires-7
-plain-answer-requires-7 c κs = search needs
+delivered-requires-6 : tie.Need-delivered-requires-6
+delivered-requires-6 c κs = search needs
 
 enum-told-5 : tie.Need-enum-told-5
 enum-told-5 c = search needs
@@ -103,8 +103,8 @@ enum-told-5 c = search needs
 write-low-requires : tie.Need-write-low-requires
 write-low-requires c κs = search needs
 
-plain-answer-requires-8 : tie.Need-plain-answer-requires-8
-plain-answer-requires-8 c κs = search needs
+delivered-requires-7 : tie.Need-delivered-requires-7
+delivered-requires-7 c κs = search needs
 
 same-length-3 : tie.Need-same-length-3
 same-length-3 c = search needs
@@ -116,7 +116,7 @@ returns-3 c =
     let s = k .before .before .before .before .before .before .before .before .before .before in
     idle _ (s .pre) _ (k .before .before .head-at .ensures) _ _ _ (k .before .before .before .before .before .before .before .result-of .ensures)
     (q .both .ensures ∙ rw (q .before .before .is-result .ensures, q .before .carries .ensures)) (k .before .first-refusal .ensures)
-    (k .if1 .left) (c .before .enum-told .given .1) _ (c .plain-answer2 .ensures)
+    (k .if1 .left) (c .before .enum-told .given .1) _ (c .delivered .ensures)
 
 same-length-4 : tie.Need-same-length-4
 same-length-4 c = search needs
@@ -129,7 +129,7 @@ returns-4 c =
     let s = q .before .before .before .before .before .before in
     on-empty _ (s .pre) _ (k .before .before .head-at .ensures) _ _ _ (q .before .before .before .result-of .ensures)
     (q .both .ensures ∙ rw (q .before .before .is-result .ensures, q .before .carries .ensures)) (k .before .first-refusal .ensures)
-    (k .if1 .left) (b .before .before .before .low .given .1) _ (b .slot-at .ensures) (c .before .enum-told2 .given .1) _ (c .plain-answer3 .ensures)
+    (k .if1 .left) (b .before .before .before .low .given .1) _ (b .slot-at .ensures) (c .before .enum-told2 .given .1) _ (c .delivered2 .ensures)
 
 same-length-5 : tie.Need-same-length-5
 same-length-5 c = search needs
@@ -143,7 +143,7 @@ returns-5 c =
     unsuited _ (s .pre) _ (k .before .before .head-at .ensures) _ _ _ (q .before .before .before .result-of .ensures)
     (q .both .ensures ∙ rw (q .before .before .is-result .ensures, q .before .carries .ensures)) (k .before .first-refusal .ensures)
     (k .if1 .left) (b .before .before .before .low .given .1) _ (b .slot-at .ensures) (c .before .before .before .before .slot .given .1) (c .before .before .suits .ensures) (c .before .if2 .left) _
-    (c .plain-answer5 .ensures)
+    (c .delivered4 .ensures)
 
 same-length-6 : tie.Need-same-length-6
 same-length-6 c = search needs
@@ -156,7 +156,7 @@ returns-6 c =
     let s = q .before .before .before .before .before .before in
     on-ready _ (s .pre) _ (k .before .before .head-at .ensures) _ _ _ (q .before .before .before .result-of .ensures)
     (q .both .ensures ∙ rw (q .before .before .is-result .ensures, q .before .carries .ensures)) (k .before .first-refusal .ensures)
-    (k .if1 .left) (b .before .before .before .low .given .1) _ (b .slot-at .ensures) (c .before .enum-told3 .given .1) _ (c .plain-answer6 .ensures)
+    (k .if1 .left) (b .before .before .before .low .given .1) _ (b .slot-at .ensures) (c .before .enum-told3 .given .1) _ (c .delivered5 .ensures)
 
 same-length-7 : tie.Need-same-length-7
 same-length-7 c = search needs
@@ -169,7 +169,7 @@ returns-7 c =
     let s = q .before .before .before .before .before .before in
     on-old _ (s .pre) _ (k .before .before .head-at .ensures) _ _ _ (q .before .before .before .result-of .ensures)
     (q .both .ensures ∙ rw (q .before .before .is-result .ensures, q .before .carries .ensures)) (k .before .first-refusal .ensures)
-    (k .if1 .left) (b .before .before .before .low .given .1) _ (b .slot-at .ensures) (c .before .enum-told4 .given .1) _ (c .plain-answer7 .ensures)
+    (k .if1 .left) (b .before .before .before .low .given .1) _ (b .slot-at .ensures) (c .before .enum-told4 .given .1) _ (c .delivered6 .ensures)
 
 same-length-8 : tie.Need-same-length-8
 same-length-8 c = search needs
@@ -181,7 +181,7 @@ returns-8 c =
     let s = k .before .before .before .before .before .before .before .before .before .before in
     abandoned _ (s .pre) _ (k .before .before .head-at .ensures) _ _ _ (k .before .before .before .before .before .before .before .result-of .ensures)
     (q .both .ensures ∙ rw (q .before .before .is-result .ensures, q .before .carries .ensures)) (k .before .first-refusal .ensures)
-    (k .if1 .left) (c .before .before .before .before .before .enum-told5 .given .1) _ _ (c .plain-answer8 .ensures) (c .before .before .before .write-low .ensures)
+    (k .if1 .left) (c .before .before .before .before .before .enum-told5 .given .1) _ _ (c .delivered7 .ensures) (c .before .before .before .write-low .ensures)
 
 pub deliver-spec : {M : Type 1} → statement M
 deliver-spec =
@@ -197,25 +197,25 @@ deliver-spec =
     same-length
     returns
     enum-told
-    plain-answer-requires-2
+    delivered-requires
     enum-known-low
     slot-at-requires
     enum-told-2
-    plain-answer-requires-3
+    delivered-requires-2
     enum-known-slot
     suits-requires
     put-result-requires
-    plain-answer-requires-4
+    delivered-requires-3
     same-length-2
     returns-2
-    plain-answer-requires-5
+    delivered-requires-4
     enum-told-3
-    plain-answer-requires-6
+    delivered-requires-5
     enum-told-4
-    plain-answer-requires-7
+    delivered-requires-6
     enum-told-5
     write-low-requires
-    plain-answer-requires-8
+    delivered-requires-7
     same-length-3
     returns-3
     same-length-4

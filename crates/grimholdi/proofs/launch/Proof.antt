@@ -33,8 +33,8 @@ earliest-of-requires c κs = search needs
 enum-told-2 : tie.Need-enum-told-2
 enum-told-2 c = search needs
 
-plain-answer-requires-2 : tie.Need-plain-answer-requires-2
-plain-answer-requires-2 c κs = search needs
+unlaunched-requires : tie.Need-unlaunched-requires
+unlaunched-requires c κs = search needs
 
 enum-known-n : tie.Need-enum-known-n
 enum-known-n c = search needs
@@ -45,8 +45,8 @@ buffer-at-requires c κs = search needs
 enum-told-3 : tie.Need-enum-told-3
 enum-told-3 c = search needs
 
-plain-answer-requires-3 : tie.Need-plain-answer-requires-3
-plain-answer-requires-3 c κs = search needs
+unlaunched-requires-2 : tie.Need-unlaunched-requires-2
+unlaunched-requires-2 c κs = search needs
 
 enum-known-slot : tie.Need-enum-known-slot
 enum-known-slot c = search needs
@@ -63,26 +63,26 @@ launch-answer-requires c κs = search needs
 enum-told-4 : tie.Need-enum-told-4
 enum-told-4 c = search needs
 
-plain-answer-requires-4 : tie.Need-plain-answer-requires-4
-plain-answer-requires-4 c κs = search needs
+unlaunched-requires-3 : tie.Need-unlaunched-requires-3
+unlaunched-requires-3 c κs = search needs
 
 enum-told-5 : tie.Need-enum-told-5
 enum-told-5 c = search needs
 
-plain-answer-requires-5 : tie.Need-plain-answer-requires-5
-plain-answer-requires-5 c κs = search needs
+unlaunched-requires-4 : tie.Need-unlaunched-requires-4
+unlaunched-requires-4 c κs = search needs
 
 enum-told-6 : tie.Need-enum-told-6
 enum-told-6 c = search needs
 
-plain-answer-requires-6 : tie.Need-plain-answer-requires-6
-plain-answer-requires-6 c κs = search needs
+unlaunched-requires-5 : tie.Need-unlaunched-requires-5
+unlaunched-requires-5 c κs = search needs
 
 enum-told-7 : tie.Need-enum-told-7
 enum-told-7 c = search needs
 
-plain-answer-requires-7 : tie.Need-plain-answer-requires-7
-plain-answer-requires-7 c κs = search needs
+unlaunched-requires-6 : tie.Need-unlaunched-requires-6
+unlaunched-requires-6 c κs = search needs
 
 same-length-2 : tie.Need-same-length-2
 same-length-2 c = search needs
@@ -92,7 +92,7 @@ returns-2 c =
     let e = c .before .before .before in
     let k = e .before .before .before .before .before in
     let s = k .before .before .before .before .before .before in
-    none-pending _ (s .pre) _ (k .before .before .head-at .ensures) _ (k .before .first-refusal .ensures) (k .if1 .left) (e .before .before .before .enum-told .given .1) _ (e .before .slots-at .ensures) (e .earliest-of .ensures) (c .before .enum-told2 .given .1) _ (c .plain-answer2 .ensures)
+    none-pending _ (s .pre) _ (k .before .before .head-at .ensures) _ (k .before .first-refusal .ensures) (k .if1 .left) (e .before .before .before .enum-told .given .1) _ (e .before .slots-at .ensures) (e .earliest-of .ensures) (c .before .enum-told2 .given .1) _ (c .unlaunched .ensures)
 
 same-length-3 : tie.Need-same-length-3
 same-length-3 c = search needs
@@ -104,7 +104,7 @@ returns-3 c =
     let k = e .before .before .before .before .before in
     let s = k .before .before .before .before .before .before in
     on-empty _ (s .pre) _ (k .before .before .head-at .ensures) _ (k .before .first-refusal .ensures)
-    (k .if1 .left) (e .before .before .before .enum-told .given .1) _ (e .before .slots-at .ensures) (e .earliest-of .ensures) (b .before .before .before .n .given .1) _ (b .buffer-at .ensures) (c .before .enum-told3 .given .1) _ (c .plain-answer3 .ensures)
+    (k .if1 .left) (e .before .before .before .enum-told .given .1) _ (e .before .slots-at .ensures) (e .earliest-of .ensures) (b .before .before .before .n .given .1) _ (b .buffer-at .ensures) (c .before .enum-told3 .given .1) _ (c .unlaunched2 .ensures)
 
 same-length-4 : tie.Need-same-length-4
 same-length-4 c = search needs
@@ -133,7 +133,7 @@ returns-5 c =
     let k = e .before .before .before .before .before in
     let s = k .before .before .before .before .before .before in
     on-ready _ (s .pre) _ (k .before .before .head-at .ensures) _ (k .before .first-refusal .ensures)
-    (k .if1 .left) (e .before .before .before .enum-told .given .1) _ (e .before .slots-at .ensures) (e .earliest-of .ensures) (b .before .before .before .n .given .1) _ (b .buffer-at .ensures) (c .before .enum-told4 .given .1) _ (c .plain-answer4 .ensures)
+    (k .if1 .left) (e .before .before .before .enum-told .given .1) _ (e .before .slots-at .ensures) (e .earliest-of .ensures) (b .before .before .before .n .given .1) _ (b .buffer-at .ensures) (c .before .enum-told4 .given .1) _ (c .unlaunched3 .ensures)
 
 same-length-7 : tie.Need-same-length-7
 same-length-7 c = search needs
@@ -145,7 +145,7 @@ returns-6 c =
     let k = e .before .before .before .before .before in
     let s = k .before .before .before .before .before .before in
     on-old _ (s .pre) _ (k .before .before .head-at .ensures) _ (k .before .first-refusal .ensures)
-    (k .if1 .left) (e .before .before .before .enum-told .given .1) _ (e .before .slots-at .ensures) (e .earliest-of .ensures) (b .before .before .before .n .given .1) _ (b .buffer-at .ensures) (c .before .enum-told5 .given .1) _ (c .plain-answer5 .ensures)
+    (k .if1 .left) (e .before .before .before .enum-told .given .1) _ (e .before .slots-at .ensures) (e .earliest-of .ensures) (b .before .before .before .n .given .1) _ (b .buffer-at .ensures) (c .before .enum-told5 .given .1) _ (c .unlaunched4 .ensures)
 
 same-length-8 : tie.Need-same-length-8
 same-length-8 c = search needs
@@ -154,7 +154,7 @@ returns-7 : tie.Need-returns-7
 returns-7 c =
     let k = c .before .before .before in
     let s = k .before .before .before .before .before .before in
-    running _ (s .pre) _ (k .before .before .head-at .ensures) _ (k .before .first-refusal .ensures) (k .if1 .left) (c .before .enum-told6 .given .1) _ (c .plain-answer6 .ensures)
+    running _ (s .pre) _ (k .before .before .head-at .ensures) _ (k .before .first-refusal .ensures) (k .if1 .left) (c .before .enum-told6 .given .1) _ (c .unlaunched5 .ensures)
 
 same-length-9 : tie.Need-same-length-9
 same-length-9 c = search needs
@@ -163,7 +163,7 @@ returns-8 : tie.Need-returns-8
 returns-8 c =
     let k = c .before .before .before in
     let s = k .before .before .before .before .before .before in
-    abandoned _ (s .pre) _ (k .before .before .head-at .ensures) _ (k .before .first-refusal .ensures) (k .if1 .left) (c .before .enum-told7 .given .1) _ (c .plain-answer7 .ensures)
+    abandoned _ (s .pre) _ (k .before .before .head-at .ensures) _ (k .before .first-refusal .ensures) (k .if1 .left) (c .before .enum-told7 .given .1) _ (c .unlaunched6 .ensures)
 
 pub launch-spec : {M : Type 1} → statement M
 launch-spec =
@@ -178,23 +178,23 @@ launch-spec =
     slots-at-requires
     earliest-of-requires
     enum-told-2
-    plain-answer-requires-2
+    unlaunched-requires
     enum-known-n
     buffer-at-requires
     enum-told-3
-    plain-answer-requires-3
+    unlaunched-requires-2
     enum-known-slot
     write-low-requires
     give-requires
     launch-answer-requires
     enum-told-4
-    plain-answer-requires-4
+    unlaunched-requires-3
     enum-told-5
-    plain-answer-requires-5
+    unlaunched-requires-4
     enum-told-6
-    plain-answer-requires-6
+    unlaunched-requires-5
     enum-told-7
-    plain-answer-requires-7
+    unlaunched-requires-6
     same-length-2
     returns-2
     same-length-3

@@ -2,6 +2,9 @@ use borrow.Author.Needs.{needs}
 use Rattle.grimholdi.proofs.launch_answer.Statement.{statement}
 use Rattle.grimholdi.proofs.launch_answer.Tie as tie
 
+launch-answer-requires : tie.Need-launch-answer-requires
+launch-answer-requires c κs = search needs
+
 size-requires : tie.Need-size-requires
 size-requires c κs = search needs
 
@@ -27,12 +30,13 @@ flag-number-requires-2 : tie.Need-flag-number-requires-2
 flag-number-requires-2 c κs = search needs
 
 returns : tie.Need-returns
-returns c = rw (c .flag-number2 .ensures, c .before .flag-number .ensures, c .before .before .direction-number .ensures, c .before .before .before .direction .ensures, c .before .before .before .before .lane-number .ensures, c .before .before .before .before .before .type-number .ensures, c .before .before .before .before .before .before .pid-number .ensures, c .before .before .before .before .before .before .before .size .ensures)
+returns c = rw (c .flag-number2 .ensures, c .before .flag-number .ensures, c .before .before .direction-number .ensures, c .before .before .before .direction .ensures, c .before .before .before .before .lane-number .ensures, c .before .before .before .before .before .type-number .ensures, c .before .before .before .before .before .before .pid-number .ensures, c .before .before .before .before .before .before .before .size .ensures, c .before .before .before .before .before .before .before .before .launch-answer .ensures)
 
 pub launch-answer-spec : {M : Type 1} → statement M
 launch-answer-spec =
     tie.close
     (tie.spec
+    launch-answer-requires
     size-requires
     pid-number-requires
     type-number-requires

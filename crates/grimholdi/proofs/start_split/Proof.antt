@@ -48,38 +48,38 @@ choose-requires c κs = search needs
 enum-told : tie.Need-enum-told
 enum-told c = search needs
 
-plain-answer-requires-2 : tie.Need-plain-answer-requires-2
-plain-answer-requires-2 c κs = search needs
+started-requires : tie.Need-started-requires
+started-requires c κs = search needs
 
 enum-told-2 : tie.Need-enum-told-2
 enum-told-2 c = search needs
 
-plain-answer-requires-3 : tie.Need-plain-answer-requires-3
-plain-answer-requires-3 c κs = search needs
-
-enum-told-3 : tie.Need-enum-told-3
-enum-told-3 c = search needs
-
-plain-answer-requires-4 : tie.Need-plain-answer-requires-4
-plain-answer-requires-4 c κs = search needs
+started-requires-2 : tie.Need-started-requires-2
+started-requires-2 c κs = search needs
 
 enum-known-n : tie.Need-enum-known-n
 enum-known-n c = search needs
 
-store-requires : tie.Need-store-requires
-store-requires c κs = search needs
-
-plain-answer-requires-5 : tie.Need-plain-answer-requires-5
-plain-answer-requires-5 c κs = search needs
+started-requires-3 : tie.Need-started-requires-3
+started-requires-3 c κs = search needs
 
 enum-known-n-2 : tie.Need-enum-known-n-2
 enum-known-n-2 c = search needs
 
+store-requires : tie.Need-store-requires
+store-requires c κs = search needs
+
+started-requires-4 : tie.Need-started-requires-4
+started-requires-4 c κs = search needs
+
+enum-known-n-3 : tie.Need-enum-known-n-3
+enum-known-n-3 c = search needs
+
 store-requires-2 : tie.Need-store-requires-2
 store-requires-2 c κs = search needs
 
-plain-answer-requires-6 : tie.Need-plain-answer-requires-6
-plain-answer-requires-6 c κs = search needs
+started-requires-5 : tie.Need-started-requires-5
+started-requires-5 c κs = search needs
 
 same-length-2 : tie.Need-same-length-2
 same-length-2 c = search needs
@@ -92,7 +92,7 @@ returns-2 c =
     let s = q .before .before .before .before .before .before in
     no-room _ (s .pre) _ (k .before .before .head-at .ensures) _ _ _ _ _ _ _ _ _ (q .before .before .before .split-of .ensures)
     (q .both .ensures ∙ rw (q .before .before .split-named .ensures, q .before .fits2 .ensures)) (k .before .first-refusal .ensures)
-    (k .if1 .left) _ (f .before .before .slots-at .ensures) _ (f .before .key .ensures) (f .choose .ensures) (c .before .enum-told .given .1) _ (c .plain-answer2 .ensures)
+    (k .if1 .left) _ (f .before .before .slots-at .ensures) _ (f .before .key .ensures) (f .choose .ensures) (c .before .enum-told .given .1) _ (c .started .ensures)
 
 same-length-3 : tie.Need-same-length-3
 same-length-3 c = search needs
@@ -105,20 +105,20 @@ returns-3 c =
     let s = q .before .before .before .before .before .before in
     limit _ (s .pre) _ (k .before .before .head-at .ensures) _ _ _ _ _ _ _ _ _ (q .before .before .before .split-of .ensures)
     (q .both .ensures ∙ rw (q .before .before .split-named .ensures, q .before .fits2 .ensures)) (k .before .first-refusal .ensures)
-    (k .if1 .left) _ (f .before .before .slots-at .ensures) _ (f .before .key .ensures) (f .choose .ensures) (c .before .enum-told2 .given .1) _ (c .plain-answer3 .ensures)
+    (k .if1 .left) _ (f .before .before .slots-at .ensures) _ (f .before .key .ensures) (f .choose .ensures) (c .before .enum-told2 .given .1) _ (c .started2 .ensures)
 
 same-length-4 : tie.Need-same-length-4
 same-length-4 c = search needs
 
 returns-4 : tie.Need-returns-4
 returns-4 c =
-    let f = c .before .before .before in
+    let f = c .before .before .before .before in
     let k = f .before .before .before .before in
     let q = k .before .before .before .before in
     let s = q .before .before .before .before .before .before in
     held _ (s .pre) _ (k .before .before .head-at .ensures) _ _ _ _ _ _ _ _ _ (q .before .before .before .split-of .ensures)
     (q .both .ensures ∙ rw (q .before .before .split-named .ensures, q .before .fits2 .ensures)) (k .before .first-refusal .ensures)
-    (k .if1 .left) _ (f .before .before .slots-at .ensures) _ (f .before .key .ensures) (f .choose .ensures) (c .before .enum-told3 .given .1) _ (c .plain-answer4 .ensures)
+    (k .if1 .left) _ (f .before .before .slots-at .ensures) _ (f .before .key .ensures) (f .choose .ensures) (c .before .before .n .given .1) _ (c .started3 .ensures)
 
 same-length-5 : tie.Need-same-length-5
 same-length-5 c = search needs
@@ -131,7 +131,7 @@ returns-5 c =
     let s = q .before .before .before .before .before .before in
     reused _ (s .pre) _ (k .before .before .head-at .ensures) _ _ _ _ _ _ _ _ _ (q .before .before .before .split-of .ensures)
     (q .both .ensures ∙ rw (q .before .before .split-named .ensures, q .before .fits2 .ensures)) (k .before .first-refusal .ensures)
-    (k .if1 .left) _ (f .before .before .slots-at .ensures) _ (f .before .key .ensures) (f .choose .ensures) (c .before .before .before .before .before .before .n .given .1) _ _ (c .plain-answer5 .ensures) (c .before .before .before .store .ensures)
+    (k .if1 .left) _ (f .before .before .slots-at .ensures) _ (f .before .key .ensures) (f .choose .ensures) (c .before .before .before .before .before .before .n2 .given .1) _ _ (c .started4 .ensures) (c .before .before .before .store .ensures)
 
 same-length-6 : tie.Need-same-length-6
 same-length-6 c = search needs
@@ -144,7 +144,7 @@ returns-6 c =
     let s = q .before .before .before .before .before .before in
     took _ (s .pre) _ (k .before .before .head-at .ensures) _ _ _ _ _ _ _ _ _ (q .before .before .before .split-of .ensures)
     (q .both .ensures ∙ rw (q .before .before .split-named .ensures, q .before .fits2 .ensures)) (k .before .first-refusal .ensures)
-    (k .if1 .left) _ (f .before .before .slots-at .ensures) _ (f .before .key .ensures) (f .choose .ensures) (c .before .before .before .before .before .before .n2 .given .1) _ _ (c .plain-answer6 .ensures) (c .before .before .before .store2 .ensures)
+    (k .if1 .left) _ (f .before .before .slots-at .ensures) _ (f .before .key .ensures) (f .choose .ensures) (c .before .before .before .before .before .before .n3 .given .1) _ _ (c .started5 .ensures) (c .before .before .before .store2 .ensures)
 
 pub start-split-spec : {M : Type 1} → statement M
 start-split-spec =
@@ -163,17 +163,17 @@ start-split-spec =
     key-requires
     choose-requires
     enum-told
-    plain-answer-requires-2
+    started-requires
     enum-told-2
-    plain-answer-requires-3
-    enum-told-3
-    plain-answer-requires-4
+    started-requires-2
     enum-known-n
-    store-requires
-    plain-answer-requires-5
+    started-requires-3
     enum-known-n-2
+    store-requires
+    started-requires-4
+    enum-known-n-3
     store-requires-2
-    plain-answer-requires-6
+    started-requires-5
     same-length-2
     returns-2
     same-length-3

@@ -2,6 +2,9 @@ use borrow.Author.Needs.{needs}
 use Rattle.hub.proofs.give_launch.Statement.{statement}
 use Rattle.hub.proofs.give_launch.Tie as tie
 
+launch-answer-requires : tie.Need-launch-answer-requires
+launch-answer-requires c κs = search needs
+
 pid-number-requires : tie.Need-pid-number-requires
 pid-number-requires c κs = search needs
 
@@ -24,12 +27,13 @@ flag-number-requires-2 : tie.Need-flag-number-requires-2
 flag-number-requires-2 c κs = search needs
 
 returns : tie.Need-returns
-returns c = rw (c .flag-number2 .ensures, c .before .flag-number .ensures, c .before .before .direction-number .ensures, c .before .before .before .direction .ensures, c .before .before .before .before .lane-number .ensures, c .before .before .before .before .before .type-number .ensures, c .before .before .before .before .before .before .pid-number .ensures)
+returns c = rw (c .flag-number2 .ensures, c .before .flag-number .ensures, c .before .before .direction-number .ensures, c .before .before .before .direction .ensures, c .before .before .before .before .lane-number .ensures, c .before .before .before .before .before .type-number .ensures, c .before .before .before .before .before .before .pid-number .ensures, c .before .before .before .before .before .before .before .launch-answer .ensures)
 
 pub give-launch-spec : {M : Type 1} → statement M
 give-launch-spec =
     tie.close
     (tie.spec
+    launch-answer-requires
     pid-number-requires
     type-number-requires
     lane-number-requires

@@ -6,14 +6,14 @@ use Rattle.parts.proofs.head_at.Tie as tie
 returns : tie.Need-returns
 returns c = head-none _ (c .if1 .taken)
 
-shared-slice-read-t6 : tie.Need-shared-slice-read-t6
-shared-slice-read-t6 c = search needs
-
 shared-slice-read-t8 : tie.Need-shared-slice-read-t8
 shared-slice-read-t8 c = search needs
 
-shared-slice-read-t10 : tie.Need-shared-slice-read-t10
-shared-slice-read-t10 c = search needs
+shared-slice-read-t11 : tie.Need-shared-slice-read-t11
+shared-slice-read-t11 c = search needs
+
+shared-slice-read-t14 : tie.Need-shared-slice-read-t14
+shared-slice-read-t14 c = search needs
 
 shared-slice-read-low-of : tie.Need-shared-slice-read-low-of
 shared-slice-read-low-of c = search needs
@@ -32,9 +32,9 @@ head-at-spec =
     tie.close
     (tie.spec
     returns
-    shared-slice-read-t6
     shared-slice-read-t8
-    shared-slice-read-t10
+    shared-slice-read-t11
+    shared-slice-read-t14
     shared-slice-read-low-of
     shared-slice-read-low-of-2
     low-of-requires

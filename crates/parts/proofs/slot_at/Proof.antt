@@ -1,57 +1,17 @@
-use Rattle.parts.proofs.Got.{slot-none, slot-some}
+use Rattle.parts.specs.Parts.{bufferAt}
 use borrow.Author.Needs.{needs}
 use Rattle.parts.proofs.slot_at.Statement.{statement}
 use Rattle.parts.proofs.slot_at.Tie as tie
 
-mul-at : tie.Need-mul-at
-mul-at c = search needs
+start-of-requires : tie.Need-start-of-requires
+start-of-requires c κs = search needs
 
-add-at : tie.Need-add-at
-add-at c = search needs
-
-cast-at : tie.Need-cast-at
-cast-at c = search needs
-
-mul-at-2 : tie.Need-mul-at-2
-mul-at-2 c = search needs
-
-add-at-2 : tie.Need-add-at-2
-add-at-2 c = search needs
-
-add-end : tie.Need-add-end
-add-end c = search needs
+slot-at-requires : tie.Need-slot-at-requires
+slot-at-requires c κs = search needs
 
 returns : tie.Need-returns
-returns c = slot-none _ _ _ (c .if1 .taken)
-
-sub-slot-of : tie.Need-sub-slot-of
-sub-slot-of c = search needs
-
-part-slot-of-start : tie.Need-part-slot-of-start
-part-slot-of-start c = search needs
-
-part-slot-of-end : tie.Need-part-slot-of-end
-part-slot-of-end c = search needs
-
-slot-of-requires : tie.Need-slot-of-requires
-slot-of-requires c κs = search needs
-
-returns-2 : tie.Need-returns-2
-returns-2 c = slot-some _ _ _ (c .before .before .if1 .left) _ (c .slot-of .ensures)
+unfolding bufferAt
+returns c = rw (c .slot-at .ensures, c .before .start-of .ensures)
 
 pub slot-at-spec : {M : Type 1} → statement M
-slot-at-spec =
-    tie.close
-    (tie.spec
-    mul-at
-    add-at
-    cast-at
-    mul-at-2
-    add-at-2
-    add-end
-    returns
-    sub-slot-of
-    part-slot-of-start
-    part-slot-of-end
-    slot-of-requires
-    returns-2)
+slot-at-spec = tie.close (tie.spec start-of-requires slot-at-requires returns)

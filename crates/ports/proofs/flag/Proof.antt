@@ -2,6 +2,9 @@ use borrow.Author.Needs.{needs}
 use Rattle.ports.proofs.flag.Statement.{statement}
 use Rattle.ports.proofs.flag.Tie as tie
 
+cast-both : tie.Need-cast-both
+cast-both c = search needs
+
 changed-requires : tie.Need-changed-requires
 changed-requires c κs = search needs
 
@@ -15,4 +18,4 @@ returns-2 : tie.Need-returns-2
 returns-2 c = (rw (← c .before .before .changed .ensures, ← c .before .both .ensures, c .if1 .left), search needs)
 
 pub flag-spec : {M : Type 1} → statement M
-flag-spec = tie.close (tie.spec changed-requires both-requires returns returns-2)
+flag-spec = tie.close (tie.spec cast-both changed-requires both-requires returns returns-2)

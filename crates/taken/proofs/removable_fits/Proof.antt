@@ -31,7 +31,7 @@ returns-8 : tie.Need-returns-8
 returns-8 c = let a = c .before .args in
     let h : a .removable < 256 = search needs in
     let r = c .match .rest in
-    let e : a .n ≡ 7 = seven (a .n) (c .before .pre) (r .0 .0 .0 .0 .0 .0 .1) (r .0 .0 .0 .0 .0 .1) (r .0 .0 .0 .0 .1) (r .0 .0 .0 .1) (r .0 .0 .1) (r .0 .1) (r .1) in
+    let e : a .n .0 ≡ 7 = seven (a .n .0) (c .before .pre) (r .0 .0 .0 .0 .0 .0 .1) (r .0 .0 .0 .0 .0 .1) (r .0 .0 .0 .0 .1) (r .0 .0 .0 .1) (r .0 .0 .1) (r .0 .1) (r .1) in
     rw e (sym (lt-ltb _ 256 h))
 
 pub removable-fits-spec : {M : Type 1} → statement M

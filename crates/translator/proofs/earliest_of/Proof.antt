@@ -10,20 +10,23 @@ use Rattle.translator.proofs.earliest_of.Statement.{statement}
 use Rattle.translator.proofs.earliest_of.Tie as tie
 
 abbrev Inv-loop : tie.InvT-loop
-Inv-loop count slots used sofar₀ i₀ sofar i = Ahead sooner count slots (earliest (take count (bare slots))) i sofar
+Inv-loop slots used sofar₀ i₀ sofar i = Ahead sooner used slots (earliest (take used (bare slots))) i sofar
 
 abbrev μ-loop : tie.MeasureT-loop
-μ-loop count slots used sofar₀ i₀ sofar i = 4 - i
+μ-loop slots used sofar₀ i₀ sofar i = 4 - i
 
 -- the array has four slots
 long : (c : tie.Start Inv-loop μ-loop) → length (c .args .t1) ≡ 4
 long c = search needs
 
+cast-used : tie.Need-cast-used Inv-loop μ-loop
+cast-used c = search needs
+
 loop-holds : tie.Need-loop-holds Inv-loop μ-loop
 loop-holds c = seeking _ _
 
 returns : tie.Need-returns Inv-loop μ-loop
-returns c = ended (c .before .before .loop .inv) (omega (arith, long (c .before .before .before)))
+returns c = ended (c .before .before .loop .inv) (omega (arith, long (c .before .before .before .before)))
 
 mul-slot : tie.Need-mul-slot Inv-loop μ-loop
 mul-slot c = search needs
@@ -46,10 +49,10 @@ loop-less c = search needs
 loop-again : tie.Need-loop-again Inv-loop μ-loop
 loop-again c =
     let l = c .before .before .before .before in
-    onward _ (l .loop .inv) (c .nearer .ensures) (omega arith) (omega (arith, long (l .before)))
+    onward _ (l .loop .inv) (c .nearer .ensures) (omega arith) (omega (arith, long (l .before .before)))
 
 returns-2 : tie.Need-returns-2 Inv-loop μ-loop
-returns-2 c = ended (c .before .loop .inv) (omega (arith, long (c .before .before)))
+returns-2 c = ended (c .before .loop .inv) (omega (arith, long (c .before .before .before)))
 
 pub earliest-of-spec : {M : Type 1} → statement M
 earliest-of-spec =
@@ -57,6 +60,7 @@ earliest-of-spec =
     (tie.spec
     Inv-loop
     μ-loop
+    cast-used
     loop-holds
     returns
     mul-slot

@@ -12,20 +12,23 @@ use Rattle.translator.proofs.holder.Statement.{statement}
 use Rattle.translator.proofs.holder.Tie as tie
 
 abbrev Inv-loop : tie.InvT-loop
-Inv-loop count key slots used i₀ i = Ahead (finding key) count slots (find (holds key) (take count (bare slots))) i Nowhere
+Inv-loop key slots used i₀ i = Ahead (finding key) used slots (find (holds key) (take used (bare slots))) i Nowhere
 
 abbrev μ-loop : tie.MeasureT-loop
-μ-loop count key slots used i₀ i = 4 - i
+μ-loop key slots used i₀ i = 4 - i
 
 -- the array has four slots
 long : (c : tie.Start Inv-loop μ-loop) → length (c .args .t1) ≡ 4
 long c = search needs
 
+cast-used : tie.Need-cast-used Inv-loop μ-loop
+cast-used c = search needs
+
 loop-holds : tie.Need-loop-holds Inv-loop μ-loop
 loop-holds c = finding-from _ _ _
 
 returns : tie.Need-returns Inv-loop μ-loop
-returns c = ended (c .before .before .loop .inv) (omega (arith, long (c .before .before .before)))
+returns c = ended (c .before .before .loop .inv) (omega (arith, long (c .before .before .before .before)))
 
 mul-slot : tie.Need-mul-slot Inv-loop μ-loop
 mul-slot c = search needs
@@ -42,7 +45,7 @@ cast-t14 c = search needs
 returns-2 : tie.Need-returns-2 Inv-loop μ-loop
 returns-2 c =
     let l = c .before .before .before .before .before in
-    found-here _ (l .loop .inv) (c .before .holds .ensures) (c .if2 .taken) (omega arith) (omega (arith, long (l .before)))
+    found-here _ (l .loop .inv) (c .before .holds .ensures) (c .if2 .taken) (omega arith) (omega (arith, long (l .before .before)))
 
 add-i : tie.Need-add-i Inv-loop μ-loop
 add-i c = search needs
@@ -53,10 +56,10 @@ loop-less c = search needs
 loop-again : tie.Need-loop-again Inv-loop μ-loop
 loop-again c =
     let l = c .before .before .before .before .before in
-    not-here _ (l .loop .inv) (c .before .holds .ensures) (c .if2 .left) (omega arith) (omega (arith, long (l .before)))
+    not-here _ (l .loop .inv) (c .before .holds .ensures) (c .if2 .left) (omega arith) (omega (arith, long (l .before .before)))
 
 returns-3 : tie.Need-returns-3 Inv-loop μ-loop
-returns-3 c = ended (c .before .loop .inv) (omega (arith, long (c .before .before)))
+returns-3 c = ended (c .before .loop .inv) (omega (arith, long (c .before .before .before)))
 
 pub holder-spec : {M : Type 1} → statement M
 holder-spec =
@@ -64,6 +67,7 @@ holder-spec =
     (tie.spec
     Inv-loop
     μ-loop
+    cast-used
     loop-holds
     returns
     mul-slot

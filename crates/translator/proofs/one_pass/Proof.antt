@@ -10,21 +10,24 @@ use Rattle.translator.proofs.one_pass.Statement.{statement}
 use Rattle.translator.proofs.one_pass.Tie as tie
 
 abbrev Inv-loop : tie.InvT-loop
-Inv-loop count key slots lane used choice₀ active₀ i₀ choice active i =
-    Ahead (searching key) count slots (searched key (take count (bare slots))) i (record { choice = choice; active = active }) × (active ≤ i)
+Inv-loop key slots lane used choice₀ active₀ i₀ choice active i =
+    Ahead (searching key) used slots (searched key (take used (bare slots))) i (record { choice = choice; active = active }) × (active ≤ i)
 
 abbrev μ-loop : tie.MeasureT-loop
-μ-loop count key slots lane used choice₀ active₀ i₀ choice active i = 4 - i
+μ-loop key slots lane used choice₀ active₀ i₀ choice active i = 4 - i
 
 -- the array has four slots
 long : (c : tie.Start Inv-loop μ-loop) → length (c .args .t1) ≡ 4
 long c = search needs
 
+cast-used : tie.Need-cast-used Inv-loop μ-loop
+cast-used c = search needs
+
 loop-holds : tie.Need-loop-holds Inv-loop μ-loop
 loop-holds c = (choosing _ _ _, search needs)
 
 returns : tie.Need-returns Inv-loop μ-loop
-returns c = ended (c .before .before .loop .inv .0) (omega (arith, long (c .before .before .before)))
+returns c = ended (c .before .before .loop .inv .0) (omega (arith, long (c .before .before .before .before)))
 
 mul-slot : tie.Need-mul-slot Inv-loop μ-loop
 mul-slot c = search needs
@@ -60,12 +63,12 @@ loop-again : tie.Need-loop-again Inv-loop μ-loop
 loop-again c =
     let l = c .before .before .before .before .before .before .before in (
       look-on _ (l .loop .inv .0) (c .before .before .before .standing .ensures) (c .before .before .look .ensures) (c .before .is-active-in .ensures) (c .bit-of .ensures .0)
-          (omega arith) (omega (arith, long (l .before))),
+          (omega arith) (omega (arith, long (l .before .before))),
       omega (arith, c .bit-of .ensures .1, l .loop .inv .1),
     )
 
 returns-2 : tie.Need-returns-2 Inv-loop μ-loop
-returns-2 c = ended (c .before .loop .inv .0) (omega (arith, long (c .before .before)))
+returns-2 c = ended (c .before .loop .inv .0) (omega (arith, long (c .before .before .before)))
 
 pub one-pass-spec : {M : Type 1} → statement M
 one-pass-spec =
@@ -73,6 +76,7 @@ one-pass-spec =
     (tie.spec
     Inv-loop
     μ-loop
+    cast-used
     loop-holds
     returns
     mul-slot

@@ -10,12 +10,12 @@ new-ports-requires c κs = search needs
 empty-requires : tie.Need-empty-requires
 empty-requires c κs = search needs
 
-answer-requires : tie.Need-answer-requires
-answer-requires c κs = search needs
+done-requires : tie.Need-done-requires
+done-requires c κs = search needs
 
 returns : tie.Need-returns
 unfolding within roomy heard fitting served step resetHub
-returns c = rw (c .answer .ensures, c .before .empty .ensures, c .before .before .new-ports .ensures)
+returns c = rw (c .done .ensures, c .before .empty .ensures, c .before .before .new-ports .ensures)
 
 pub bus-reset-spec : {M : Type 1} → statement M
-bus-reset-spec = tie.close (tie.spec new-ports-requires empty-requires answer-requires returns)
+bus-reset-spec = tie.close (tie.spec new-ports-requires empty-requires done-requires returns)

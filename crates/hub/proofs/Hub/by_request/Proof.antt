@@ -6,8 +6,8 @@ use Rattle.hub.proofs.Hub.by_request.Tie as tie
 enum-told : tie.Need-enum-told
 enum-told c = search needs
 
-answer-requires : tie.Need-answer-requires
-answer-requires c κs = search needs
+stall-requires : tie.Need-stall-requires
+stall-requires c κs = search needs
 
 enum-known-request : tie.Need-enum-known-request
 enum-known-request c = search needs
@@ -15,8 +15,8 @@ enum-known-request c = search needs
 configure-requires : tie.Need-configure-requires
 configure-requires c κs = search needs
 
-answer-requires-2 : tie.Need-answer-requires-2
-answer-requires-2 c κs = search needs
+done-requires : tie.Need-done-requires
+done-requires c κs = search needs
 
 enum-told-2 : tie.Need-enum-told-2
 enum-told-2 c = search needs
@@ -60,8 +60,8 @@ get-port-status-requires c κs = search needs
 enum-told-4 : tie.Need-enum-told-4
 enum-told-4 c = search needs
 
-answer-requires-3 : tie.Need-answer-requires-3
-answer-requires-3 c κs = search needs
+done-requires-2 : tie.Need-done-requires-2
+done-requires-2 c κs = search needs
 
 enum-known-request-4 : tie.Need-enum-known-request-4
 enum-known-request-4 c = search needs
@@ -69,17 +69,11 @@ enum-known-request-4 c = search needs
 clear-feature-requires : tie.Need-clear-feature-requires
 clear-feature-requires c κs = search needs
 
-answer-requires-4 : tie.Need-answer-requires-4
-answer-requires-4 c κs = search needs
-
 enum-known-request-5 : tie.Need-enum-known-request-5
 enum-known-request-5 c = search needs
 
 set-feature-requires : tie.Need-set-feature-requires
 set-feature-requires c κs = search needs
-
-answer-requires-5 : tie.Need-answer-requires-5
-answer-requires-5 c κs = search needs
 
 enum-known-request-6 : tie.Need-enum-known-request-6
 enum-known-request-6 c = search needs
@@ -93,8 +87,8 @@ clear-buffer-requires c κs = search needs
 with-translator-requires : tie.Need-with-translator-requires
 with-translator-requires c κs = search needs
 
-answer-requires-6 : tie.Need-answer-requires-6
-answer-requires-6 c κs = search needs
+done-requires-3 : tie.Need-done-requires-3
+done-requires-3 c κs = search needs
 
 enum-told-5 : tie.Need-enum-told-5
 enum-told-5 c = search needs
@@ -105,14 +99,14 @@ reset-lane-requires c κs = search needs
 with-translator-requires-2 : tie.Need-with-translator-requires-2
 with-translator-requires-2 c κs = search needs
 
-answer-requires-7 : tie.Need-answer-requires-7
-answer-requires-7 c κs = search needs
+done-requires-4 : tie.Need-done-requires-4
+done-requires-4 c κs = search needs
 
 returns : tie.Need-returns
-returns c = rw (c .answer .ensures, c .before .enum-told .given .1)
+returns c = rw (c .stall .ensures, c .before .enum-told .given .1)
 
 returns-2 : tie.Need-returns-2
-returns-2 c = rw (c .answer2 .ensures, c .before .configure .ensures, c .before .before .before .request .given .1)
+returns-2 c = rw (c .done .ensures, c .before .configure .ensures, c .before .before .before .request .given .1)
 
 returns-3 : tie.Need-returns-3
 unfolding padded payloadOf
@@ -129,29 +123,29 @@ returns-6 : tie.Need-returns-6
 returns-6 c = rw (c .get-port-status .ensures, c .before .before .request3 .given .1)
 
 returns-7 : tie.Need-returns-7
-returns-7 c = rw (c .answer3 .ensures, c .before .enum-told4 .given .1)
+returns-7 c = rw (c .done2 .ensures, c .before .enum-told4 .given .1)
 
 returns-8 : tie.Need-returns-8
-returns-8 c = rw (c .answer4 .ensures, c .before .clear-feature .ensures, c .before .before .before .request4 .given .1)
+returns-8 c = rw (c .clear-feature .ensures, c .before .before .request4 .given .1)
 
 returns-9 : tie.Need-returns-9
-returns-9 c = rw (c .answer5 .ensures, c .before .set-feature .ensures, c .before .before .before .request5 .given .1)
+returns-9 c = rw (c .set-feature .ensures, c .before .before .request5 .given .1)
 
 returns-10 : tie.Need-returns-10
-returns-10 c = rw (c .answer6 .ensures, c .before .with-translator .ensures, c .before .before .clear-buffer .ensures, c .before .before .before .keyed .ensures, c .before .before .before .before .before .request6 .given .1)
+returns-10 c = rw (c .done3 .ensures, c .before .with-translator .ensures, c .before .before .clear-buffer .ensures, c .before .before .before .keyed .ensures, c .before .before .before .before .before .request6 .given .1)
 
 returns-11 : tie.Need-returns-11
-returns-11 c = rw (c .answer7 .ensures, c .before .with-translator2 .ensures, c .before .before .reset-lane .ensures, c .before .before .before .enum-told5 .given .1)
+returns-11 c = rw (c .done4 .ensures, c .before .with-translator2 .ensures, c .before .before .reset-lane .ensures, c .before .before .before .enum-told5 .given .1)
 
 pub by-request-spec : {M : Type 1} → statement M
 by-request-spec =
     tie.close
     (tie.spec
     enum-told
-    answer-requires
+    stall-requires
     enum-known-request
     configure-requires
-    answer-requires-2
+    done-requires
     enum-told-2
     flag-number-requires
     slice-aggregate-of
@@ -166,22 +160,20 @@ by-request-spec =
     enum-known-request-3
     get-port-status-requires
     enum-told-4
-    answer-requires-3
+    done-requires-2
     enum-known-request-4
     clear-feature-requires
-    answer-requires-4
     enum-known-request-5
     set-feature-requires
-    answer-requires-5
     enum-known-request-6
     keyed-requires
     clear-buffer-requires
     with-translator-requires
-    answer-requires-6
+    done-requires-3
     enum-told-5
     reset-lane-requires
     with-translator-requires-2
-    answer-requires-7
+    done-requires-4
     returns
     returns-2
     returns-3

@@ -63,6 +63,9 @@ shared-slice-read-t27 c = search needs
 lane-of-requires : tie.Need-lane-of-requires
 lane-of-requires c κs = search needs
 
+port-count-requires : tie.Need-port-count-requires
+port-count-requires c κs = search needs
+
 read-requires : tie.Need-read-requires
 read-requires c κs = search needs
 
@@ -72,11 +75,11 @@ serve-requires c κs = search needs
 returns-3 : tie.Need-returns-3
 unfolding within roomy heard fitting served
 returns-3 c =
-    let i = c .before .before .before .before .before .before .before .before .before .before .before in
+    let i = c .before .before .before .before .before .before .before .before .before .before .before .before in
     let r = i .before .before in
     let a = r .before .before .before .before .args in
     served-by _ (Control _ _ _) (r .first-refusal .ensures) (r .before .both .ensures ∙ rw (r .before .before .is-lane .ensures)) refl refl refl (i .if2 .left)
-    (control-served _ (a .lane) (a .setup .now) (c .serve .ensures) (c .before .before .lane-of .ensures) (c .before .read .ensures))
+    (control-served _ (a .lane) (a .setup .now) (c .serve .ensures) (c .before .before .before .lane-of .ensures) (c .before .read .ensures ∙ rw (c .before .before .port-count .ensures)))
 
 pub control-spec : {M : Type 1} → statement M
 control-spec =
@@ -98,6 +101,7 @@ control-spec =
     shared-slice-read-t25
     shared-slice-read-t27
     lane-of-requires
+    port-count-requires
     read-requires
     serve-requires
     returns-3)

@@ -8,6 +8,12 @@ use Rattle.hub.proofs.Hub.new.Tie as tie
 can-be-made-requires : tie.Need-can-be-made-requires
 can-be-made-requires c κs = search needs
 
+cast-t9 : tie.Need-cast-t9
+cast-t9 c = search needs
+
+cast-t12 : tie.Need-cast-t12
+cast-t12 c = search needs
+
 cast-hub-of : tie.Need-cast-hub-of
 cast-hub-of c = search needs
 
@@ -16,12 +22,6 @@ cast-hub-of-2 c = search needs
 
 cast-hub-of-3 : tie.Need-cast-hub-of-3
 cast-hub-of-3 c = search needs
-
-cast-hub-of-4 : tie.Need-cast-hub-of-4
-cast-hub-of-4 c = search needs
-
-cast-hub-of-5 : tie.Need-cast-hub-of-5
-cast-hub-of-5 c = search needs
 
 hub-of-requires : tie.Need-hub-of-requires
 hub-of-requires c κs = search needs
@@ -41,11 +41,11 @@ new-spec =
     tie.close
     (tie.spec
     can-be-made-requires
+    cast-t9
+    cast-t12
     cast-hub-of
     cast-hub-of-2
     cast-hub-of-3
-    cast-hub-of-4
-    cast-hub-of-5
     hub-of-requires
     returns
     hub-of-requires-2

@@ -1,4 +1,4 @@
-use mathlib.Core.Path.{refl}
+use mathlib.Core.Path.{refl, _∙_}
 use Rattle.hub.specs.Call.{Poll}
 use Rattle.hub.specs.Step.{within, roomy, heard, fitting, served}
 use Rattle.hub.proofs.Ways.{poll-nothing, poll-data}
@@ -20,18 +20,21 @@ returns : tie.Need-returns
 unfolding within roomy heard fitting
 returns c = refused-by _ (Poll _ _) (c .answer .ensures) (c .before .before .first-refusal .ensures) (c .before .before .before .is-lane .ensures) refl refl refl (c .before .if1 .taken)
 
+port-count-requires : tie.Need-port-count-requires
+port-count-requires c κs = search needs
+
 bitmap-requires : tie.Need-bitmap-requires
 bitmap-requires c κs = search needs
 
-answer-requires-2 : tie.Need-answer-requires-2
-answer-requires-2 c κs = search needs
+give-nothing-requires : tie.Need-give-nothing-requires
+give-nothing-requires c κs = search needs
 
 returns-2 : tie.Need-returns-2
 unfolding within roomy heard fitting served
 returns-2 c =
     let b = c .before .before in
-    served-by _ (Poll _ _) (b .before .before .first-refusal .ensures) (b .before .before .before .is-lane .ensures) refl refl refl (b .before .if1 .left)
-    (poll-nothing _ (c .answer2 .ensures) (b .bitmap .ensures) (c .before .if2 .taken))
+    served-by _ (Poll _ _) (b .before .before .before .first-refusal .ensures) (b .before .before .before .before .is-lane .ensures) refl refl refl (b .before .before .if1 .left)
+    (poll-nothing _ (c .give-nothing .ensures) (b .bitmap .ensures ∙ rw (b .before .port-count .ensures)) (c .before .if2 .taken))
 
 slice-aggregate-of : tie.Need-slice-aggregate-of
 slice-aggregate-of c = search needs
@@ -46,8 +49,8 @@ returns-3 : tie.Need-returns-3
 unfolding within roomy heard fitting served
 returns-3 c =
     let b = c .before .before .before .before in
-    served-by _ (Poll _ _) (b .before .before .first-refusal .ensures) (b .before .before .before .is-lane .ensures) refl refl refl (b .before .if1 .left)
-    (poll-data _ (c .give-data .ensures) (c .before .of .ensures) (b .bitmap .ensures) (c .before .before .before .if2 .left))
+    served-by _ (Poll _ _) (b .before .before .before .first-refusal .ensures) (b .before .before .before .before .is-lane .ensures) refl refl refl (b .before .before .if1 .left)
+    (poll-data _ (c .give-data .ensures) (c .before .of .ensures) (b .bitmap .ensures ∙ rw (b .before .port-count .ensures)) (c .before .before .before .if2 .left))
 
 pub poll-spec : {M : Type 1} → statement M
 poll-spec =
@@ -57,8 +60,9 @@ poll-spec =
     first-refusal-requires
     answer-requires
     returns
+    port-count-requires
     bitmap-requires
-    answer-requires-2
+    give-nothing-requires
     returns-2
     slice-aggregate-of
     of-requires

@@ -15,11 +15,11 @@ by-request-requires c κs = search needs
 returns : tie.Need-returns
 returns c = requested-done _ _ _ (c .by-request .ensures) (c .before .before .either .ensures) (c .before .before .before .is-served-always .ensures) (c .before .if1 .taken)
 
-answer-requires : tie.Need-answer-requires
-answer-requires c κs = search needs
+stall-requires : tie.Need-stall-requires
+stall-requires c κs = search needs
 
 returns-2 : tie.Need-returns-2
-returns-2 c = requested-refused _ _ _ (c .answer .ensures) (c .before .before .either .ensures) (c .before .before .before .is-served-always .ensures) (c .before .if1 .left)
+returns-2 c = requested-refused _ _ _ (c .stall .ensures) (c .before .before .either .ensures) (c .before .before .before .is-served-always .ensures) (c .before .if1 .left)
 
 pub serve-spec : {M : Type 1} → statement M
 serve-spec =
@@ -29,5 +29,5 @@ serve-spec =
     either-requires
     by-request-requires
     returns
-    answer-requires
+    stall-requires
     returns-2)

@@ -1,3 +1,5 @@
+use mathlib.Core.Path.{ap, _∙_}
+use Rattle.hub.specs.Rules.{steppedAt}
 use borrow.Author.Needs.{needs}
 use Rattle.hub.proofs.Hub.set_feature.Statement.{statement}
 use Rattle.hub.proofs.Hub.set_feature.Tie as tie
@@ -8,12 +10,14 @@ port-requires c κs = search needs
 set-feature-requires : tie.Need-set-feature-requires
 set-feature-requires c κs = search needs
 
-with-port-requires : tie.Need-with-port-requires
-with-port-requires c κs = search needs
+with-step-requires : tie.Need-with-step-requires
+with-step-requires c κs = search needs
 
 returns : tie.Need-returns
-returns c = rw (c .with-port .ensures, c .before .set-feature .ensures, c .before .before .port .ensures)
+returns c =
+    let a = c .before .before .before .args in
+    c .with-step .ensures ∙ ap (steppedAt (a .self) (a .n)) (c .before .set-feature .ensures) ∙ rw (c .before .before .port .ensures)
 
 pub set-feature-spec : {M : Type 1} → statement M
 set-feature-spec =
-    tie.close (tie.spec port-requires set-feature-requires with-port-requires returns)
+    tie.close (tie.spec port-requires set-feature-requires with-step-requires returns)

@@ -10,19 +10,19 @@ sweep-requires c κs = search needs
 with-ports-requires : tie.Need-with-ports-requires
 with-ports-requires c κs = search needs
 
-answer-requires : tie.Need-answer-requires
-answer-requires c κs = search needs
+done-requires : tie.Need-done-requires
+done-requires c κs = search needs
 
 returns : tie.Need-returns
 unfolding within roomy heard fitting served step tickedHub
-returns c = rw (c .answer .ensures, c .before .with-ports .ensures, c .before .before .sweep .ensures, c .before .before .before .if1 .taken)
+returns c = rw (c .done .ensures, c .before .with-ports .ensures, c .before .before .sweep .ensures, c .before .before .before .if1 .taken)
 
-answer-requires-2 : tie.Need-answer-requires-2
-answer-requires-2 c κs = search needs
+done-requires-2 : tie.Need-done-requires-2
+done-requires-2 c κs = search needs
 
 returns-2 : tie.Need-returns-2
 unfolding within roomy heard fitting served step tickedHub
-returns-2 c = rw (c .answer2 .ensures, c .before .if1 .left)
+returns-2 c = rw (c .done2 .ensures, c .before .if1 .left)
 
 pub tick-spec : {M : Type 1} → statement M
 tick-spec =
@@ -30,7 +30,7 @@ tick-spec =
     (tie.spec
     sweep-requires
     with-ports-requires
-    answer-requires
+    done-requires
     returns
-    answer-requires-2
+    done-requires-2
     returns-2)

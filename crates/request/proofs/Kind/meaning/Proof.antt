@@ -20,17 +20,26 @@ enum-told-5 c = search needs
 enum-told-6 : tie.Need-enum-told-6
 enum-told-6 c = search needs
 
+port-in-requires : tie.Need-port-in-requires
+port-in-requires c κs = search needs
+
 enum-told-7 : tie.Need-enum-told-7
 enum-told-7 c = search needs
 
 enum-told-8 : tie.Need-enum-told-8
 enum-told-8 c = search needs
 
+port-in-requires-2 : tie.Need-port-in-requires-2
+port-in-requires-2 c κs = search needs
+
 clearable-of-requires : tie.Need-clearable-of-requires
 clearable-of-requires c κs = search needs
 
 enum-told-9 : tie.Need-enum-told-9
 enum-told-9 c = search needs
+
+port-in-requires-3 : tie.Need-port-in-requires-3
+port-in-requires-3 c κs = search needs
 
 settable-of-requires : tie.Need-settable-of-requires
 settable-of-requires c κs = search needs
@@ -60,16 +69,16 @@ returns-5 : tie.Need-returns-5
 returns-5 c = search needs
 
 returns-6 : tie.Need-returns-6
-returns-6 c = rw (c .enum-told6 .given .1)
+returns-6 c = rw (c .port-in .ensures, c .before .enum-told6 .given .1)
 
 returns-7 : tie.Need-returns-7
 returns-7 c = search needs
 
 returns-8 : tie.Need-returns-8
-returns-8 c = rw (c .clearable-of .ensures, c .before .enum-told8 .given .1)
+returns-8 c = rw (c .clearable-of .ensures, c .before .port-in2 .ensures, c .before .before .enum-told8 .given .1)
 
 returns-9 : tie.Need-returns-9
-returns-9 c = rw (c .settable-of .ensures, c .before .enum-told9 .given .1)
+returns-9 c = rw (c .settable-of .ensures, c .before .port-in3 .ensures, c .before .before .enum-told9 .given .1)
 
 returns-10 : tie.Need-returns-10
 returns-10 c = rw (c .pipe-in .ensures, c .before .enum-told10 .given .1)
@@ -87,10 +96,13 @@ meaning-spec =
     enum-told-4
     enum-told-5
     enum-told-6
+    port-in-requires
     enum-told-7
     enum-told-8
+    port-in-requires-2
     clearable-of-requires
     enum-told-9
+    port-in-requires-3
     settable-of-requires
     enum-told-10
     pipe-in-requires

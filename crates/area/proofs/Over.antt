@@ -11,7 +11,7 @@ use borrow.Author.Tests.{le-leb, lt-leb}
 use borrow.Rule.Slice.PartMut.{putMid}
 use Rattle.taken.specs.Rows.{flat}
 use Rattle.taken.proofs.Rows.{flat-append}
-use Rattle.parts.specs.Parts.{placed}
+use Rattle.area.specs.Written.{placed}
 
 pub placed-is : (n k : ℕ) (o p : List ℕ) → putMid n k o p ≡ placed n k p o
 placed-is n k o p = ap (λ (r : List ℕ). take n o ++ (p ++ r)) (drop-drop k n o)
