@@ -8,10 +8,8 @@ use mathlib.Core.List.{List, []}
 use lib.Dec.{eqb, leb}
 use lib.ListN.{length}
 use borrow.Author.Tests.{eqb-true, eqb-false}
-use Rattle.hub.specs.declared.Hub.{Hub}
 use Rattle.hub.specs.Hub.{newFits, hubOf}
 use Rattle.hub.specs.Claims.{CountsOutside, NewOutside}
-use Rattle.hub.specs.Valid.{ValidHub}
 use Rattle.hub.proofs.Tells.{Tells}
 use Rattle.hub.proofs.NewNumbers.{counts-tell}
 use Rattle.hub.proofs.Claimed.{hub-claims}
@@ -19,7 +17,6 @@ use Rattle.area.specs.Written.{written, areaLength}
 use Rattle.area.proofs.Exact.{area-exact}
 use Rattle.grimholdi.specs.Entry.{plainSaid, Gave, refused, newEntry}
 use Rattle.grimholdi.specs.New.{Long, NewHubs, AreaLengths}
-use Rattle.grimholdi.proofs.Ways.{new-made}
 
 module _ (a : List ℕ) (n b g c r : ℕ) where
   abbrev made : Gave

@@ -3,7 +3,7 @@ use Prim.Native.Nat.{ℕ, _-_}
 use native.Mathlib.Omega.{arith}
 use mathlib.Core.Path.{_≡_, refl, sym, _∙_, ap, subst}
 use mathlib.Core.Logic.{_⊎_, inl, inr, ⊎-elim}
-use mathlib.Core.Bool.{false, cond}
+use mathlib.Core.Bool.{false, cond, false≢true}
 use mathlib.Core.List.{List, [], _∷_, _++_}
 use lib.ListN.{length, getD, take, drop, replicate}
 use Rattle.payload.specs.Payload as payload
@@ -32,9 +32,9 @@ use Rattle.area.proofs.Exact.{area-exact}
 use Rattle.grimholdi.specs.Entry.{Gave, gaveBy, newEntry}
 use Rattle.grimholdi.specs.Asked.{Asked, control, poll, tick, callOf, replyOf, gives}
 use Rattle.grimholdi.specs.Runs.{seen, NewArea, AreaFollows}
-use Rattle.grimholdi.specs.New.{NewHubs}
+use Rattle.grimholdi.specs.New.{NewHubs, AreaLengths}
 use Rattle.grimholdi.specs.Refusals.{EntryRefusals}
-use Rattle.grimholdi.specs.Mistakes.{zeroed, onNumber, touched, ten, oneMore, keepsArea, takesLonger, makesLonger, refusedWrites, EntryMistakesShutOut}
+use Rattle.grimholdi.specs.Mistakes.{zeroed, onNumber, touched, ten, oneMore, keepsArea, takesLonger, makesLonger, refusedWrites, keepsByte, anyLength, noLength, EntryMistakesShutOut}
 use Rattle.grimholdi.proofs.Carried.{gives-taken, filled-is}
 
 -- ---- a valid hub: what an altered entry gives is what is given, altered
@@ -162,6 +162,14 @@ keeps-area claim =
 
 -- ---- new hubs
 
+-- memory of the length that the bench hub takes
+abbrev held : List ℕ
+held = replicate 240 7
+
+held-long : length held ≡ length (written fresh)
+unfolding areaLength
+held-long = sym (area-exact .written-length fresh fresh-valid)
+
 makes-longer : ¬ (NewHubs makesLonger)
 unfolding newEntry newFits areaLength written headBytes flat portBytes bufferBytes
 makes-longer claim =
@@ -171,6 +179,22 @@ refused-writes : ¬ (NewHubs refusedWrites)
 unfolding newEntry newFits areaLength
 refused-writes claim =
     let z : _≡_ {A = ℕ} 0xFF 0 = ap (λ (g : Gave). first (g .area)) (claim .unchanged (0 ∷ []) 0 3 0 0 0 refl) in omega (arith, z)
+
+keeps-byte : ¬ (NewHubs keepsByte)
+unfolding newEntry newFits areaLength written headBytes
+keeps-byte claim =
+    let e = claim .made held 4 3 0x32 0x64 0 (λ o. false≢true (sym (hub-claims .new-refused 4 3 0x32 0x64 0 .1 o))) held-long in
+    let z : _≡_ {A = ℕ} 7 0x32 = ap (λ (g : Gave). getD (g .area) 2 0) e in omega (arith, z)
+
+-- ---- lengths
+
+any-length : ¬ (AreaLengths anyLength)
+any-length claim = let z : _≡_ {A = ℕ} 152 0 = claim .none 0 2 .1 (inl (omega arith)) in omega (arith, z)
+
+no-length : ¬ (AreaLengths noLength)
+unfolding areaLength
+no-length claim =
+    let z : _≡_ {A = ℕ} 0 240 = claim .whole fresh fresh-valid ∙ area-exact .written-length fresh fresh-valid in omega (arith, z)
 
 pub entry-mistakes-shut-out : EntryMistakesShutOut
 entry-mistakes-shut-out =
@@ -184,4 +208,7 @@ entry-mistakes-shut-out =
       keeps-area = keeps-area;
       makes-longer = makes-longer;
       refused-writes = refused-writes;
+      keeps-byte = keeps-byte;
+      any-length = any-length;
+      no-length = no-length;
     }

@@ -12,7 +12,7 @@ use Rattle.hub.specs.declared.Identity.{Identity}
 use Rattle.hub.specs.declared.Made.{Made}
 use Rattle.hub.specs.declared.Stepped.{Stepped}
 use Rattle.hub.specs.Hub.{newFits, hubOf, newHub}
-use Rattle.hub.specs.Call.{Call, Poll, Outcome, outcomeOf, gives}
+use Rattle.hub.specs.Call.{Call, Poll, Outcome, outcomeOf}
 use Rattle.hub.specs.Step.{served, step}
 use Rattle.hub.specs.Valid.{ValidHub}
 use Rattle.hub.proofs.Order.{by-step}

@@ -1,15 +1,15 @@
 -- Entries with one mistake each, and that the claims on entries shut each out. A reader must believe: each differs from the entries where its
 -- comment says, and nowhere else.
-use Prim.Native.Nat.{ℕ, _+_, _-_}
+use Prim.Native.Nat.{ℕ, _+_, _*_, _-_}
 use mathlib.Core.Bool.{cond}
 use mathlib.Core.List.{List, [], _++_}
 use lib.Dec.{eqb}
-use lib.ListN.{length, take, set, replicate}
+use lib.ListN.{length, getD, take, set, replicate}
 use Rattle.area.specs.Read.{readOf}
 use Rattle.grimholdi.specs.Entry.{plainSaid, Gave, newEntry}
 use Rattle.grimholdi.specs.Asked.{Asked, gives}
 use Rattle.grimholdi.specs.Runs.{seen, AreaFollows}
-use Rattle.grimholdi.specs.New.{NewHubs}
+use Rattle.grimholdi.specs.New.{NewHubs, AreaLengths}
 use Rattle.grimholdi.specs.Refusals.{EntryRefusals}
 
 -- ---- what an entry gives, altered
@@ -77,6 +77,19 @@ refusedWrites a n b g c r =
     let o = newEntry a n b g c r in
     cond (eqb (o .answer .number) 6) (record { answer = o .answer; area = set a 0 0xFF; reply = [] }) o
 
+-- a new hub's area keeps a byte that the memory held
+abbrev pub keepsByte : List ℕ → ℕ → ℕ → ℕ → ℕ → ℕ → Gave
+keepsByte a n b g c r =
+    let o = newEntry a n b g c r in
+    record { answer = o .answer; area = set (o .area) 2 (getD a 2 0); reply = o .reply }
+
+-- an area's length is told for any numbers, or for none
+abbrev pub anyLength : ℕ → ℕ → ℕ
+anyLength n b = 8 + n * 4 + b * 72
+
+abbrev pub noLength : ℕ → ℕ → ℕ
+noLength n b = 0
+
 pub record EntryMistakesShutOut : Type 0 where
   pub zeroes-behind : ¬ (EntryRefusals (λ a x. zeroed (gives a x)))
   -- a 3 that writes, and a 0
@@ -88,3 +101,6 @@ pub record EntryMistakesShutOut : Type 0 where
   pub keeps-area : ¬ (AreaFollows keepsArea)
   pub makes-longer : ¬ (NewHubs makesLonger)
   pub refused-writes : ¬ (NewHubs refusedWrites)
+  pub keeps-byte : ¬ (NewHubs keepsByte)
+  pub any-length : ¬ (AreaLengths anyLength)
+  pub no-length : ¬ (AreaLengths noLength)

@@ -13,11 +13,13 @@ use Rattle.hub.specs.Valid.{ValidHub}
 use Rattle.hub.proofs.Claimed.{hub-claims}
 use Rattle.runs.specs.History.{Event}
 use Rattle.runs.specs.Machine.{newHubOf}
+use Rattle.numbers.specs.Split.{splitFrom}
 use Rattle.why.specs.declared.Reason.{Reason}
 use Rattle.why.specs.declared.Reason.the-variants.{Nothing, Number}
 use Rattle.why.specs.declared.ReasonBytes.{ReasonBytes}
 use Rattle.why.specs.Said.{TrueOf, number, says, getsReason, enoughFor}
 use Rattle.why.specs.Why.{whyOf}
+use Rattle.why.specs.Claims.{Leaves}
 use Rattle.why.specs.Bytes.{bytesOf}
 use Rattle.why.specs.ExplainedRuns.{Item, make, explain, Seen, made, explained, seenFrom, explaining, itemsOf, Demand2WithReasons}
 use Rattle.why.proofs.Claimed.{why-claims}
@@ -27,7 +29,7 @@ use Rattle.area.specs.declared.Read.{Read}
 use Rattle.area.specs.Read.{readOf}
 use Rattle.area.proofs.Exact.{area-exact}
 use Rattle.grimholdi.specs.Entry.{Gave}
-use Rattle.grimholdi.specs.Asked.{Asked, callOf, gives}
+use Rattle.grimholdi.specs.Asked.{Asked, startSplit, callOf, gives}
 use Rattle.grimholdi.specs.Runs.{seen}
 use Rattle.grimholdi_why.specs.Explained.{entryReason, explains, explainedEntries, EntryReasons}
 use Rattle.grimholdi.proofs.Carried.{gives-taken, answer-same, next-same, new-hub, filled-is}
@@ -76,6 +78,20 @@ module _ (h : Hub) (v : ValidHub h) where
       let r = reason-same (callOf x) in
       (λ e. n ∙ w .0 (sym r ∙ e), λ e. r ∙ w .1 (sym n ∙ e))
 
+  -- the hub that is read from the area that an entry leaves
+  next-read : (x : Asked) → readOf (gives (written h) x .area) .hub ≡ step h (callOf x) .next
+  next-read x =
+      ap (λ (a : List ℕ). readOf a .hub) (next-same h v x)
+      ∙ ap (λ (r : Read). r .hub) (area-exact .again (step h (callOf x) .next) (hub-claims .step-valid h v (callOf x)))
+
+  stored : (z p t f g a e : ℕ) (l : List ℕ)
+      → Leaves (explains (written h) (startSplit z p t f g a e l)) (splitFrom z p t f g a e) l h (readOf (gives (written h) (startSplit z p t f g a e l) .area) .hub)
+  stored z p t f g a e l =
+      let x : Asked = startSplit z p t f g a e l in
+      let s = splitFrom z p t f g a e in
+      subst (λ (r : Reason). Leaves r s l h (readOf (gives (written h) x .area) .hub)) (sym (reason-same (callOf x)))
+      (subst (λ (k : Hub). Leaves (whyOf h (callOf x)) s l h k) (sym (next-read x)) (why-claims .stored h z p t f g a e l v))
+
 -- ---- runs
 
 follows : (is : List (Item Asked)) (h : Hub) → ValidHub h → seenFrom explainedEntries (written h) is ≡ seenFrom explaining h (itemsOf callOf is)
@@ -99,6 +115,7 @@ entry-reasons =
       true-of = λ h c v. true-of h v c;
       answered = λ h x a v. answered h v x a;
       given = λ h x v. given h v x;
+      stored = λ h z p t f g a e l v. stored h v z p t f g a e l;
       demand-2 = demand-2;
       demand-3 = runs.with-reasons explainedEntries (λ a x. refl) (runs.carried explainedEntries demand-2) (entry-claims .demand-3 .data-explained) (entry-claims .launch-order);
     }

@@ -6,6 +6,7 @@ use mathlib.Core.Logic.{_↔_}
 use mathlib.Core.Bool.{false, cond}
 use mathlib.Core.Option.{some}
 use mathlib.Core.List.{List}
+use Rattle.numbers.specs.Split.{splitFrom}
 use Rattle.hub.specs.declared.Hub.{Hub}
 use Rattle.hub.specs.Call.{Call, Answer}
 use Rattle.hub.specs.Valid.{ValidHub}
@@ -13,10 +14,11 @@ use Rattle.why.specs.declared.Reason.{Reason}
 use Rattle.why.specs.declared.Reason.the-variants.{Nothing, Number}
 use Rattle.why.specs.Said.{TrueOf, getsReason, enoughFor}
 use Rattle.why.specs.Why.{whyOf}
+use Rattle.why.specs.Claims.{Leaves}
 use Rattle.why.specs.ExplainedRuns.{Explainer, Demand2WithReasons, Demand3WithReasons}
 use Rattle.area.specs.Written.{written}
 use Rattle.area.specs.Read.{readOf}
-use Rattle.grimholdi.specs.Asked.{Asked, callOf, gives}
+use Rattle.grimholdi.specs.Asked.{Asked, startSplit, callOf, gives}
 use Rattle.grimholdi.specs.Runs.{seen, entries}
 use Rattle.grimholdi.specs.Refusals.{Unwritten}
 
@@ -42,5 +44,9 @@ pub record EntryReasons : Type 0 where
   -- .. and it is given exactly where that answer gets one
   pub given : (h : Hub) (x : Asked) → ValidHub h
       → (explains (written h) x ≡ Nothing) ↔ (getsReason (callOf x) (gives (written h) x .answer .number) ≡ false)
+  -- Of a start-split it tells where the start-split is stored in the area that its own entry leaves, or that it is not.
+  pub stored : (h : Hub) (z p t f g a e : ℕ) (l : List ℕ) → ValidHub h
+      → (let x = startSplit z p t f g a e l in
+      Leaves (explains (written h) x) (splitFrom z p t f g a e) l h (readOf (gives (written h) x .area) .hub))
   pub demand-2 : Demand2WithReasons explainedEntries
   pub demand-3 : Demand3WithReasons explainedEntries

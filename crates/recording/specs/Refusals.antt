@@ -3,7 +3,7 @@
 use Prim.Native.Nat.{ℕ, _+_, _%_, _≤_, _<_}
 use mathlib.Core.Path.{_≡_}
 use mathlib.Core.Logic.{_↔_}
-use mathlib.Core.Bool.{cond, not, _&&_}
+use mathlib.Core.Bool.{cond}
 use mathlib.Core.List.{List}
 use lib.Dec.{leb}
 use lib.ListN.{length, getD}
@@ -13,7 +13,7 @@ use Rattle.call_bytes.specs.Written.{Bytes}
 use Rattle.recording.specs.declared.Verdict.{Verdict}
 use Rattle.recording.specs.declared.Verdict.the-variants.{Good, BadLength, BadCheck, BadNumber, BadCount, BadRecord}
 use Rattle.recording.specs.Calls.{writtenAll, AllFit}
-use Rattle.recording.specs.Block.{sumTo, lengthFits, checkFits, numberFits, countOf, countFits, usedOf, recordsFit, bodyOf}
+use Rattle.recording.specs.Block.{sumTo, lengthFits, checkFits, numberFits, countOf, usedOf, recordsFit, bodyOf}
 
 -- at most 506 bytes are used from 4 on, and unused bytes are zero
 pub record CountRight (l : List ℕ) : Type 0 where

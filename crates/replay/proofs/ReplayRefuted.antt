@@ -3,7 +3,7 @@ use Prim.Native.Nat.{ℕ, _+_, _%_, _<_, _≤_, _^_}
 use native.Mathlib.Omega.{arith}
 use mathlib.Core.Path.{_≡_, refl, sym, subst, _∙_, ap}
 use mathlib.Core.List.{List, [], _∷_}
-use mathlib.Core.Bool.{true, false, _&&_}
+use mathlib.Core.Bool.{true, false}
 use borrow.Author.Tests.{eq-eqb, le-leb}
 use lib.ListN.{length}
 use Rattle.buffer.specs.Key.{sameKey}
