@@ -67,7 +67,7 @@ takesLonger a x =
     let b = take (length a - 1) a in
     cond (readOf b .ok) (gives b x) (gives a x)
 
--- a new hub is made in memory that is a byte too long
+-- the memory counts as one byte shorter than it is, so that a new hub is made where it is a byte too long
 abbrev pub makesLonger : List ℕ → ℕ → ℕ → ℕ → ℕ → ℕ → Gave
 makesLonger a n b g c r = newEntry (take (length a - 1) a) n b g c r
 
