@@ -400,6 +400,17 @@ static inline uint32_t held_by(uint32_t lane)
     return held;
 }
 
+/* The buffer has this key, and is not empty. */
+static inline int has_key(uint32_t buffer, uint32_t lane, uint32_t pid,
+                          uint32_t address, uint32_t endpoint)
+{
+    const uint8_t *bytes = buffer_bytes(buffer);
+
+    return bytes[0] != 0 && is_of_lane(buffer, lane) && bytes[4] == address
+           && bytes[5] == endpoint
+           && (bytes[1] == GRIMHOLDI_PID_IN) == (pid == GRIMHOLDI_PID_IN);
+}
+
 /* The fields that only a launch gives are 0. */
 static inline int launches_nothing(grimholdi_answer answer)
 {

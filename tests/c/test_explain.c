@@ -140,17 +140,6 @@ static int poll_of(uint32_t lane, size_t reply_len, why expected)
     return told && answered;
 }
 
-/* The buffer has this key, and is not empty. */
-static int has_key(uint32_t buffer, uint32_t lane, uint32_t pid,
-                   uint32_t address, uint32_t endpoint)
-{
-    const uint8_t *bytes = buffer_bytes(buffer);
-
-    return bytes[0] != 0 && is_of_lane(buffer, lane) && bytes[4] == address
-           && bytes[5] == endpoint
-           && (bytes[1] == GRIMHOLDI_PID_IN) == (pid == GRIMHOLDI_PID_IN);
-}
-
 /* What a start-split left: the key is where the reason says. */
 static int is_stored(why expected, uint32_t lane, uint32_t pid,
                      uint32_t address, uint32_t endpoint)

@@ -842,33 +842,40 @@ static choice chosen(uint8_t kind, uint32_t buffer)
     return c;
 }
 
-/* A repeat comes before the limit, the limit before the own old buffer. */
+/*
+ * Looks at each buffer at most once, in rising number.  A repeat comes before
+ * the limit, the limit before the own old buffer; nothing behind a repeat
+ * counts.
+ */
 static inline choice choose(const uint8_t *area, uint32_t lane,
                             uint32_t address, uint32_t endpoint,
                             uint32_t direction)
 {
     const uint32_t none = area[BUFFERS];
-    uint32_t own = none;         /* the buffer with the key */
+    uint32_t own_old = none;     /* the old one with the key */
     uint32_t lowest_free = none; /* the first that is empty or old */
     uint32_t held = 0;           /* how many the lane holds */
     uint32_t i;
 
     for (i = 0; i < area[BUFFERS]; i++) {
         const uint8_t *buffer = area + buffer_at(area, i);
+        int is_own = has_key(buffer, lane, address, endpoint, direction);
 
-        if (has_key(buffer, lane, address, endpoint, direction))
-            own = i;
-        if (is_held(buffer))
+        if (is_held(buffer)) {
+            if (is_own)
+                return chosen(GRIMHOLDI_WHY_HELD, i);
             held += lane_of(buffer) == lane;
-        else if (lowest_free == none)
+            continue;
+        }
+        if (is_own)
+            own_old = i;
+        if (lowest_free == none)
             lowest_free = i;
     }
-    if (own != none && is_held(area + buffer_at(area, own)))
-        return chosen(GRIMHOLDI_WHY_HELD, own);
     if (held == limit(area))
         return chosen(GRIMHOLDI_WHY_LIMIT, 0);
-    if (own != none)
-        return chosen(GRIMHOLDI_WHY_REUSED, own);
+    if (own_old != none)
+        return chosen(GRIMHOLDI_WHY_REUSED, own_old);
     if (lowest_free != none)
         return chosen(GRIMHOLDI_WHY_TOOK_FREE, lowest_free);
     return chosen(GRIMHOLDI_WHY_NO_ROOM, 0);

@@ -10,16 +10,17 @@ use Rattle.buffer.specs.declared.Slot.the-variants.{Empty, Pending, Ready, Old}
 use Rattle.buffer.specs.declared.Buffer.{Buffer}
 use Rattle.buffer.specs.declared.BufferNumber.{BufferNumber}
 use Rattle.payload.specs.Payload.{noPayload}
-use Rattle.buffer.specs.Buffer.{isPending, activeIn}
+use Rattle.buffer.specs.Buffer.{isPending}
 use Rattle.translator.specs.declared.Found.{Found}
 use Rattle.translator.specs.declared.Found.the-variants.{At}
-use Rattle.translator.specs.declared.Choice.the-variants.{NoRoom}
+use Rattle.translator.specs.declared.Carried.the-variants.{NoneYet}
 use Rattle.translator.specs.declared.Earliest.the-variants.{NonePending}
 use Rattle.translator.specs.Slots.{slotsIn, bare}
-use Rattle.translator.specs.Search.{later, find, chosen, pass}
+use Rattle.translator.specs.Search.{later, find, pass}
 use Rattle.translator.specs.Limit.{permitted}
 use Rattle.translator.specs.Order.{bit, isBefore, tally, waiting, before, reranked, rankedIn, sooner, earliest}
-use Rattle.translator.proofs.Search.{looking, pass-chosen}
+use Rattle.translator.specs.OnePass.{choiceOf}
+use Rattle.translator.proofs.Search.{looking, pass-permitted}
 
 -- the first n of the buffers without payloads
 cut-bare : (n : ℕ) (bs : List Buffer) → take n (bare (slotsIn bs)) ≡ bare (slotsIn (take n bs))
@@ -47,10 +48,6 @@ tally-bare : (f : Slot → Bool) (bs : List Buffer) → tally f (bare (slotsIn b
 unfolding tally
 tally-bare f = by-slots (tally f) (λ (s : Slot) (n : ℕ). bit (f s) + n) (λ b bs. refl)
 
-tally-first-bare : (f : Slot → Bool) (n : ℕ) (bs : List Buffer) → tally f (take n (bare (slotsIn bs))) ≡ tally f (take n bs)
-unfolding tally
-tally-first-bare f = by-first-slots (tally f) (λ (s : Slot) (n : ℕ). bit (f s) + n) (λ b bs. refl)
-
 pub waiting-bare : (bs : List Buffer) → waiting (bare (slotsIn bs)) ≡ waiting bs
 waiting-bare = tally-bare isPending
 
@@ -67,12 +64,9 @@ pass-bare {C} f c n bs =
     (λ (s : Slot) (k : ℕ → C → C) (i : ℕ) (c : C). k (suc i) (f c s (record { 0 = i })))
     (λ b bs. refl) n bs)
 
-pub chosen-bare : (k : Key) (n : ℕ) (bs : List Buffer) → chosen k (take n (bare (slotsIn bs))) ≡ chosen k (take n bs)
-chosen-bare k n bs = sym (pass-chosen k (take n (bare (slotsIn bs)))) ∙ pass-bare (looking k) NoRoom n bs ∙ pass-chosen k (take n bs)
-
 pub permitted-bare : (b : ℕ) (k : Key) (n : ℕ) (bs : List Buffer) → permitted b k (take n (bare (slotsIn bs))) ≡ permitted b k (take n bs)
-unfolding permitted
-permitted-bare b k n bs = rw (chosen-bare k n bs, tally-first-bare (activeIn (k .lane)) n bs)
+permitted-bare b k n bs =
+    sym (pass-permitted b k (take n (bare (slotsIn bs)))) ∙ ap (choiceOf b) (pass-bare (looking k) (NoneYet 0) n bs) ∙ pass-permitted b k (take n bs)
 
 pub earliest-bare : (n : ℕ) (bs : List Buffer) → earliest (take n (bare (slotsIn bs))) ≡ earliest (take n bs)
 unfolding earliest

@@ -1,3 +1,4 @@
+pub mod Passes
 pub mod Search
 pub mod Bare
 pub mod Lists
@@ -5,6 +6,9 @@ pub mod StartSplit
 pub mod At
 pub mod Tallies
 pub mod Finding
+pub mod TwoSteps
+pub mod OnePass
+pub mod SearchRefuted
 pub mod Ranks
 pub mod Kept
 pub mod Calls

@@ -1,227 +1,257 @@
--- A pass over the buffers, and that the pass of a start-split gives document 01's choice. Assumes nothing.
-use Prim.Native.Nat.{ℕ, suc, _+_, _<_, _≤_, min}
-use mathlib.Core.Path.{_≡_, refl, sym, ap, _∙_}
-use mathlib.Core.Bool.{Bool, true, false, cond}
-use mathlib.Core.List.{List, [], _∷_, map}
-use native.Mathlib.Numerals.{add-one}
+-- The pass of a start-split: the choice that is read off it is the rule's, and the code's pass is it. Assumes nothing.
+use Prim.Native.Nat.{ℕ, suc, _+_, _≤_}
+use mathlib.Core.Path.{_≡_, refl, sym, ap, _∙_, subst}
+use mathlib.Core.Bool.{Bool, true, false, cond, false≢true}
+use mathlib.Core.List.{List, [], _∷_}
 use native.Mathlib.Omega.{arith}
-use lib.ListN.{length, take, drop, getD, length-take, length-map, drop-of-length-le, List·getD-map}
-use lib.Seq.{drop-cons, getD-take}
-use Rattle.payload.specs.Payload.{noPayload}
+use lib.ListN.{take, drop}
 use Rattle.buffer.specs.declared.Key.{Key}
+use Rattle.buffer.specs.declared.StartSplit.{StartSplit}
 use Rattle.buffer.specs.declared.Slot.{Slot}
 use Rattle.buffer.specs.declared.Slot.the-variants.{Empty, Pending, Ready, Old}
 use Rattle.buffer.specs.declared.Buffer.{Buffer}
 use Rattle.buffer.specs.declared.BufferNumber.{BufferNumber}
 use Rattle.buffer.specs.declared.Standing.{Standing}
 use Rattle.buffer.specs.declared.Standing.the-variants.{Busy, Free, Holds, Reusable}
-use Rattle.buffer.specs.Key.{keyOf, sameKey}
+use Rattle.buffer.specs.Key.{keyOf, sameLane, sameKey}
 use Rattle.buffer.specs.Buffer.{holds, isActive, isFree, activeIn, standing}
+use Rattle.buffer.proofs.Keys.{lane-refl, same-true}
 use Rattle.translator.specs.declared.Found.{Found}
 use Rattle.translator.specs.declared.Found.the-variants.{Nowhere, At}
-use Rattle.translator.specs.declared.Choice.{Choice}
-use Rattle.translator.specs.declared.Choice.the-variants.{NoRoom, Held, Reused, Took}
-use Rattle.translator.specs.declared.Searched.{Searched}
-use Rattle.translator.specs.declared.Earliest.the-variants.{NonePending}
+use Rattle.translator.specs.declared.Carried.{Carried}
+use Rattle.translator.specs.declared.Carried.the-variants.{NoneYet, LowestFree, OwnOld, Repeat}
+use Rattle.translator.specs.declared.Choice.the-variants.{NoRoom, LimitReached, Held, Reused, Took}
 use Rattle.translator.specs.Translator.{at}
 use Rattle.translator.specs.Slots.{bare}
-use Rattle.translator.specs.Order.{bit, tally, sooner, earliest}
-use Rattle.translator.specs.Limit.{heldBy, mayStore, limited, permitted, searched, searching}
-use Rattle.translator.specs.Search.{later, find, chooseFree, chooseHeld, chosen, looked, pass}
-
--- A pass over the first m of the slots ss that is to give w: where it stands at number i with c in hand, ..
-pub record Ahead {C : Type 0} (f : C → Slot → BufferNumber → C) (m : ℕ) (ss : List Slot) (w : C) (i : ℕ) (c : C) : Type 0 where
-  pub rest : pass f i c (drop i (take m (bare ss))) ≡ w
-
-module _ {C : Type 0} {f : C → Slot → BufferNumber → C} {m : ℕ} {ss : List Slot} {w : C} {i : ℕ} {c : C} where
-  -- .. it goes on by one step, ..
-  pub onward : {c′ : C} (d : Slot) → Ahead f m ss w i c → c′ ≡ f c (getD ss i d) (record { 0 = i }) → i < m → i < length ss → Ahead f m ss w (i + 1) c′
-  unfolding pass bare
-  onward d a e h l =
-      let b : Slot → Buffer = λ s. record { slot = s; payload = noPayload } in
-      let n : i < length (take m (map b ss)) = simp (length-take, length-map) (omega arith) in
-      let t : getD (take m (map b ss)) i (b d) ≡ b (getD ss i d) = getD-take m (map b ss) i (b d) h ∙ List·getD-map b ss i d in
-      record { rest = rw (e, add-one) (rw t at (rw (drop-cons (take m (map b ss)) i (b d)) at (a .rest))) }
-
-  -- .. and is done past the last slot
-  pub ended : Ahead f m ss w i c → min m (length ss) ≤ i → c ≡ w
-  unfolding pass bare
-  ended a h =
-      let n : length (take m (bare ss)) ≤ i = simp (length-take, length-map) (omega arith) in
-      rw (drop-of-length-le (take m (bare ss)) n) at (a .rest)
+use Rattle.translator.specs.Order.{bit, tally}
+use Rattle.translator.specs.Limit.{heldBy, mayStore, limited, permitted}
+use Rattle.translator.specs.Search.{later, find, chooseHeld, chosen, pass}
+use Rattle.translator.specs.OnePass.{past, counted, look, isSettled, heldSoFar, carriedBy, choiceOf}
+use Rattle.translator.proofs.Passes.{Ahead}
 
 -- the step of the search for a key
-abbrev pub looking : Key → Choice → Slot → BufferNumber → Choice
-looking k c s n = looked c (standing k s) n
+abbrev pub looking : Key → Carried → Slot → BufferNumber → Carried
+looking k c s n = look c n s k
 
-pub look-on : {k : Key} {m : ℕ} {ss : List Slot} {w : Searched} {i : ℕ} {c c′ : Choice} {a y : ℕ} {s : Standing} {x : Bool} (d : Slot)
-    → Ahead (searching k) m ss w i (record { choice = c; active = a }) → s ≡ standing k (getD ss i d) → c′ ≡ looked c s (record { 0 = i })
-    → x ≡ activeIn (k .lane) (getD ss i d) → y ≡ bit x → i < m → i < length ss → Ahead (searching k) m ss w (i + 1) (record { choice = c′; active = a + y })
-look-on d h e f g n = onward d h (rw (f, e, n, g))
+-- what is carried from number n on, by the holder that was found, or else d
+abbrev heldAt : List Buffer → ℕ → Found → ℕ → Carried → Carried
+heldAt bs n Nowhere h d = d
+heldAt bs n (At i) h d = cond (isActive (at bs (i .0) .slot)) (Repeat (record { 0 = n + i .0 })) (OwnOld (record { 0 = n + i .0 }) h)
 
--- what holds the key ends the search
-held : (k : Key) (n : ℕ) (m : BufferNumber) (bs : List Buffer) → pass (looking k) n (Held m) bs ≡ Held m
-unfolding pass
-held k n m [] = refl
-held k n m (b ∷ bs) = held k (suc n) m bs
+abbrev freeAt : ℕ → Found → ℕ → Carried
+freeAt n Nowhere h = NoneYet h
+freeAt n (At i) h = LowestFree (record { 0 = n + i .0 }) h
 
-reused : (k : Key) (n : ℕ) (m : BufferNumber) (bs : List Buffer) → pass (looking k) n (Reused m) bs ≡ Reused m
-unfolding pass
-reused k n m [] = refl
-reused k n m (b ∷ bs) = reused k (suc n) m bs
+held-later : (b : Buffer) (bs : List Buffer) (n : ℕ) (f : Found) (h : ℕ) (d : Carried) → heldAt bs (suc n) f h d ≡ heldAt (b ∷ bs) n (later f) h d
+held-later b bs n Nowhere h d = refl
+held-later b bs n (At i) h d = let e : suc n + i .0 ≡ n + suc (i .0) = omega arith in rw e
 
--- the choice from number n on: the holder that was found, or d
-abbrev heldAt : List Buffer → ℕ → Found → Choice → Choice
-heldAt bs n Nowhere d = d
-heldAt bs n (At i) d = cond (isActive (at bs (i .0) .slot)) (Held (record { 0 = n + i .0 })) (Reused (record { 0 = n + i .0 }))
+free-later : (n : ℕ) (f : Found) (h : ℕ) → freeAt (suc n) f h ≡ freeAt n (later f) h
+free-later n Nowhere h = refl
+free-later n (At i) h = let e : suc n + i .0 ≡ n + suc (i .0) = omega arith in rw e
 
-abbrev freeAt : ℕ → Found → Choice
-freeAt n Nowhere = NoRoom
-freeAt n (At i) = Took (record { 0 = n + i .0 })
+-- what holds of each standing to the key k holds of a slot's
+by-standing : (k : Key) (P : Standing → Bool → Bool → Type 0) (s : Slot) → (isActive s ≡ true → P Holds true false) → (isActive s ≡ false → P Reusable true true)
+    → P Free false true → P Busy false false → P (standing k s) (holds k s) (isFree s)
+by-standing k P Empty held old free busy = free
+by-standing k P (Pending s p) held old free busy = elim (sameKey (keyOf s) k) as (λ x. P (cond x Holds Busy) x false) [ true ↦ held refl | false ↦ busy ]
+by-standing k P (Ready s r) held old free busy = elim (sameKey (keyOf s) k) as (λ x. P (cond x Holds Busy) x false) [ true ↦ held refl | false ↦ busy ]
+by-standing k P (Old s r) held old free busy = elim (sameKey (keyOf s) k) as (λ x. P (cond x Reusable Free) x true) [ true ↦ old refl | false ↦ free ]
 
-held-later : (b : Buffer) (bs : List Buffer) (n : ℕ) (f : Found) (d : Choice) → heldAt bs (suc n) f d ≡ heldAt (b ∷ bs) n (later f) d
-held-later b bs n Nowhere d = refl
-held-later b bs n (At i) d = let e : suc n + i .0 ≡ n + suc (i .0) = omega arith in rw e
+module _ (k : Key) where
+  -- whether a buffer counts for the key's lane
+  abbrev one : Buffer → ℕ
+  one b = bit (activeIn (k .lane) (b .slot))
 
-free-later : (n : ℕ) (f : Found) → freeAt (suc n) f ≡ freeAt n (later f)
-free-later n Nowhere = refl
-free-later n (At i) = let e : suc n + i .0 ≡ n + suc (i .0) = omega arith in rw e
+  -- with h so far, all that the lane holds
+  abbrev all : ℕ → List Buffer → ℕ
+  all h bs = h + heldBy (k .lane) bs
 
-module _ (k : Key) (n : ℕ) (b : Buffer) (bs : List Buffer) where
-  -- the first buffer is the holder
-  first-held : isActive (b .slot) ≡ true → (d : Choice) → pass (looking k) (suc n) (Held (record { 0 = n })) bs ≡ heldAt (b ∷ bs) n (At (record { 0 = 0 })) d
-  first-held e d = let z : n + 0 ≡ n = omega arith in held k (suc n) (record { 0 = n }) bs ∙ rw (e, z)
+  all-later : (h : ℕ) (b : Buffer) (bs : List Buffer) → all (h + one b) bs ≡ all h (b ∷ bs)
+  unfolding tally
+  all-later h b bs = omega arith
 
-  first-reused : isActive (b .slot) ≡ false → (d : Choice) → pass (looking k) (suc n) (Reused (record { 0 = n })) bs ≡ heldAt (b ∷ bs) n (At (record { 0 = 0 })) d
-  first-reused e d = let z : n + 0 ≡ n = omega arith in reused k (suc n) (record { 0 = n }) bs ∙ rw (e, z)
+  all-none : (h : ℕ) → h ≡ all h []
+  unfolding tally
+  all-none h = omega arith
 
--- with a free buffer in hand only the key counts
-taken : (k : Key) (n : ℕ) (m : BufferNumber) (bs : List Buffer) → pass (looking k) n (Took m) bs ≡ heldAt bs n (find (holds k) bs) (Took m)
-unfolding pass find
-taken k n m [] = refl
-taken k n m (b ∷ bs) = go (b .slot) refl (taken k (suc n) m bs ∙ held-later b bs n (find (holds k) bs) (Took m))
-  where
-    Goal : Standing → Bool → Type 0
-    Goal st x = pass (looking k) (suc n) (looked (Took m) st (record { 0 = n })) bs ≡ heldAt (b ∷ bs) n (cond x (At (record { 0 = 0 })) (later (find (holds k) bs))) (Took m)
+  -- a repeat settles it
+  pub settled : (n : ℕ) (m : BufferNumber) (bs : List Buffer) → pass (looking k) n (Repeat m) bs ≡ Repeat m
+  unfolding pass look
+  settled n m [] = refl
+  settled n m (b ∷ bs) = settled (suc n) m bs
 
-    go : (s : Slot) → b .slot ≡ s → Goal Free false → Goal (standing k s) (holds k s)
-    go Empty e g = g
-    go (Pending s p) e g =
-        elim (sameKey (keyOf s) k) as (λ x. Goal (cond x Holds Busy) x) [ true ↦ first-held k n b bs (ap isActive e) (Took m) | false ↦ g ]
-    go (Ready s r) e g =
-        elim (sameKey (keyOf s) k) as (λ x. Goal (cond x Holds Busy) x) [ true ↦ first-held k n b bs (ap isActive e) (Took m) | false ↦ g ]
-    go (Old s r) e g =
-        elim (sameKey (keyOf s) k) as (λ x. Goal (cond x Reusable Free) x) [ true ↦ first-reused k n b bs (ap isActive e) (Took m) | false ↦ g ]
+  -- with the own old one in hand, only the lane's are counted
+  own-old : (n : ℕ) (m : BufferNumber) (h : ℕ) (bs : List Buffer) → pass (looking k) n (OwnOld m h) bs ≡ OwnOld m (all h bs)
+  unfolding pass look
+  own-old n m h [] = ap (OwnOld m) (all-none h)
+  own-old n m h (b ∷ bs) = own-old (suc n) m (h + one b) bs ∙ ap (OwnOld m) (all-later h b bs)
 
--- one pass is the two steps
-one-pass : (k : Key) (n : ℕ) (bs : List Buffer) → pass (looking k) n NoRoom bs ≡ heldAt bs n (find (holds k) bs) (freeAt n (find isFree bs))
-unfolding pass find
-one-pass k n [] = refl
-one-pass k n (b ∷ bs) =
-    go (b .slot) refl
-    (let z : n + 0 ≡ n = omega arith in taken k (suc n) (record { 0 = n }) bs ∙ held-later b bs n (find (holds k) bs) (Took (record { 0 = n })) ∙ rw z)
-    (one-pass k (suc n) bs ∙ held-later b bs n (find (holds k) bs) (freeAt (suc n) (find isFree bs)) ∙ rw (free-later n (find isFree bs)))
-  where
-    Goal : Standing → Bool → Bool → Type 0
-    Goal st x y =
-        pass (looking k) (suc n) (looked NoRoom st (record { 0 = n })) bs
-        ≡ heldAt (b ∷ bs) n (cond x (At (record { 0 = 0 })) (later (find (holds k) bs))) (freeAt n (cond y (At (record { 0 = 0 })) (later (find isFree bs))))
+  module _ (n : ℕ) (b : Buffer) (bs : List Buffer) where
+    -- the first buffer is the holder
+    first-held : isActive (b .slot) ≡ true → (h : ℕ) (d : Carried) → pass (looking k) (suc n) (Repeat (record { 0 = n })) bs ≡ heldAt (b ∷ bs) n (At (record { 0 = 0 })) h d
+    first-held e h d = let z : n + 0 ≡ n = omega arith in settled (suc n) (record { 0 = n }) bs ∙ rw (e, z)
 
-    go : (s : Slot) → b .slot ≡ s → Goal Free false true → Goal Busy false false → Goal (standing k s) (holds k s) (isFree s)
-    go Empty e f g = f
-    go (Pending s p) e f g =
-        elim (sameKey (keyOf s) k) as (λ x. Goal (cond x Holds Busy) x false) [ true ↦ first-held k n b bs (ap isActive e) (freeAt n (later (find isFree bs))) | false ↦ g ]
-    go (Ready s r) e f g =
-        elim (sameKey (keyOf s) k) as (λ x. Goal (cond x Holds Busy) x false) [ true ↦ first-held k n b bs (ap isActive e) (freeAt n (later (find isFree bs))) | false ↦ g ]
-    go (Old s r) e f g =
-        elim (sameKey (keyOf s) k) as (λ x. Goal (cond x Reusable Free) x true) [ true ↦ first-reused k n b bs (ap isActive e) (freeAt n (At (record { 0 = 0 }))) | false ↦ f ]
+    first-old : isActive (b .slot) ≡ false → (h : ℕ) (d : Carried)
+        → pass (looking k) (suc n) (OwnOld (record { 0 = n }) (h + one b)) bs ≡ heldAt (b ∷ bs) n (At (record { 0 = 0 })) (all h (b ∷ bs)) d
+    first-old e h d = let z : n + 0 ≡ n = omega arith in own-old (suc n) (record { 0 = n }) (h + one b) bs ∙ rw (e, z, all-later h b bs)
 
-from-zero : (bs : List Buffer) (f : Found) → heldAt bs 0 f (freeAt 0 (find isFree bs)) ≡ chooseHeld bs f
-from-zero bs Nowhere = go (find isFree bs)
-  where
-    go : (g : Found) → freeAt 0 g ≡ chooseFree g
-    go Nowhere = refl
-    go (At i) = let z : 0 + i .0 ≡ i .0 = omega arith in rw z
-from-zero bs (At i) = let z : 0 + i .0 ≡ i .0 = omega arith in rw z
+  -- with a free buffer in hand, only the key and the lane's count
+  lowest : (n : ℕ) (m : BufferNumber) (h : ℕ) (bs : List Buffer)
+      → pass (looking k) n (LowestFree m h) bs ≡ heldAt bs n (find (holds k) bs) (all h bs) (LowestFree m (all h bs))
+  unfolding pass find look
+  lowest n m h [] = ap (LowestFree m) (all-none h)
+  lowest n m h (b ∷ bs) =
+      let t = all h (b ∷ bs) in
+      let next : pass (looking k) (suc n) (LowestFree m (h + one b)) bs ≡ heldAt (b ∷ bs) n (later (find (holds k) bs)) t (LowestFree m t) =
+      lowest (suc n) m (h + one b) bs ∙ rw (all-later h b bs) (held-later b bs n (find (holds k) bs) t (LowestFree m t)) in
+      by-standing k
+      (λ st x y. pass (looking k) (suc n) (counted (one b) (past (LowestFree m h) (record { 0 = n }) st)) bs
+      ≡ heldAt (b ∷ bs) n (cond x (At (record { 0 = 0 })) (later (find (holds k) bs))) t (LowestFree m t))
+      (b .slot) (λ e. first-held n b bs e t (LowestFree m t)) (λ e. first-old n b bs e h (LowestFree m t)) next next
 
--- the pass from the first buffer gives the choice
-pub pass-chosen : (k : Key) (bs : List Buffer) → pass (looking k) 0 NoRoom bs ≡ chosen k bs
-unfolding chosen
-pass-chosen k bs = one-pass k 0 bs ∙ from-zero bs (find (holds k) bs)
+  -- one pass is the two steps and the count
+  one-pass : (n h : ℕ) (bs : List Buffer) → pass (looking k) n (NoneYet h) bs ≡ heldAt bs n (find (holds k) bs) (all h bs) (freeAt n (find isFree bs) (all h bs))
+  unfolding pass find look
+  one-pass n h [] = ap NoneYet (all-none h)
+  one-pass n h (b ∷ bs) =
+      let t = all h (b ∷ bs) in
+      let here : Carried = freeAt n (At (record { 0 = 0 })) t in
+      let further : Carried = freeAt n (later (find isFree bs)) t in
+      let z : n + 0 ≡ n = omega arith in
+      let free : pass (looking k) (suc n) (LowestFree (record { 0 = n }) (h + one b)) bs ≡ heldAt (b ∷ bs) n (later (find (holds k) bs)) t here =
+      lowest (suc n) (record { 0 = n }) (h + one b) bs ∙ rw (all-later h b bs, z) (held-later b bs n (find (holds k) bs) t (LowestFree (record { 0 = n }) t)) in
+      let busy : pass (looking k) (suc n) (NoneYet (h + one b)) bs ≡ heldAt (b ∷ bs) n (later (find (holds k) bs)) t further =
+      one-pass (suc n) (h + one b) bs ∙ rw (all-later h b bs, free-later n (find isFree bs) t) (held-later b bs n (find (holds k) bs) t further) in
+      by-standing k
+      (λ st x y. pass (looking k) (suc n) (counted (one b) (past (NoneYet h) (record { 0 = n }) st)) bs
+      ≡ heldAt (b ∷ bs) n (cond x (At (record { 0 = 0 })) (later (find (holds k) bs))) t (freeAt n (cond y (At (record { 0 = 0 })) (later (find isFree bs))) t))
+      (b .slot) (λ e. first-held n b bs e t further) (λ e. first-old n b bs e h here) free busy
 
--- choice and count are carried side by side
-side-by-side : (k : Key) (n : ℕ) (c : Searched) (bs : List Buffer)
-    → pass (searching k) n c bs ≡ record { choice = pass (looking k) n (c .choice) bs; active = c .active + heldBy (k .lane) bs }
-unfolding pass tally
-side-by-side k n c [] = let z : c .active + 0 ≡ c .active = omega arith in rw z
-side-by-side k n c (b ∷ bs) =
-    let e : (c .active + bit (activeIn (k .lane) (b .slot))) + heldBy (k .lane) bs ≡ c .active + (bit (activeIn (k .lane) (b .slot)) + heldBy (k .lane) bs) = omega arith in
-    side-by-side k (suc n) (searching k c (b .slot) (record { 0 = n })) bs ∙ rw e
+-- what is carried past all, by the buffer with the key, the free one and how many the lane holds
+abbrev pub ending : List Buffer → Found → Found → ℕ → Carried
+ending bs (At i) g h = cond (isActive (at bs (i .0) .slot)) (Repeat i) (OwnOld i h)
+ending bs Nowhere (At i) h = LowestFree i h
+ending bs Nowhere Nowhere h = NoneYet h
 
-pub pass-searched : (k : Key) (bs : List Buffer) → pass (searching k) 0 (record { choice = NoRoom; active = 0 }) bs ≡ searched k bs
-pass-searched k bs =
+from-zero : (bs : List Buffer) (f g : Found) (h : ℕ) → heldAt bs 0 f h (freeAt 0 g h) ≡ ending bs f g h
+from-zero bs (At i) g h = let z : 0 + i .0 ≡ i .0 = omega arith in rw z
+from-zero bs Nowhere (At i) h = let z : 0 + i .0 ≡ i .0 = omega arith in rw z
+from-zero bs Nowhere Nowhere h = refl
+
+pub pass-ending : (k : Key) (bs : List Buffer) → carriedBy look k bs ≡ ending bs (find (holds k) bs) (find isFree bs) (heldBy (k .lane) bs)
+pass-ending k bs =
     let z : 0 + heldBy (k .lane) bs ≡ heldBy (k .lane) bs = omega arith in
-    side-by-side k 0 (record { choice = NoRoom; active = 0 }) bs ∙ rw (z, pass-chosen k bs)
+    one-pass k 0 0 bs ∙ rw z (from-zero bs (find (holds k) bs) (find isFree bs) (heldBy (k .lane) bs))
 
-pub choosing : (k : Key) (m : ℕ) (ss : List Slot) → Ahead (searching k) m ss (searched k (take m (bare ss))) 0 (record { choice = NoRoom; active = 0 })
-choosing k m ss = record { rest = pass-searched k (take m (bare ss)) }
-
--- the pass from the first buffer gives the earliest
-pub seeking : (m : ℕ) (ss : List Slot) → Ahead sooner m ss (earliest (take m (bare ss))) 0 NonePending
-unfolding earliest
-seeking m ss = record { rest = refl }
-
--- what is chosen under the limit
-pub chosen-in : (b : ℕ) (k : Key) (bs : List Buffer) {r : Searched} {x : Bool} {c : Choice} → c ≡ limited x (r .choice) → x ≡ mayStore b (r .active) → r ≡ searched k bs
-    → c ≡ permitted b k bs
-unfolding permitted
-chosen-in b k bs e f g = rw (e, f, g)
-
--- ---- the search for the buffer that holds a key
-
--- its step: the first that was found stays
-abbrev pub finding : Key → Found → Slot → BufferNumber → Found
-finding k Nowhere s n = cond (holds k s) (At n) Nowhere
-finding k (At m) s n = At m
-
-found-stays : (k : Key) (n : ℕ) (m : BufferNumber) (bs : List Buffer) → pass (finding k) n (At m) bs ≡ At m
-unfolding pass
-found-stays k n m [] = refl
-found-stays k n m (b ∷ bs) = found-stays k (suc n) m bs
-
--- counted from number n on
-abbrev shifted : ℕ → Found → Found
-shifted n Nowhere = Nowhere
-shifted n (At i) = At (record { 0 = n + i .0 })
-
-shifted-later : (n : ℕ) (f : Found) → shifted (suc n) f ≡ shifted n (later f)
-shifted-later n Nowhere = refl
-shifted-later n (At i) = let e : suc n + i .0 ≡ n + suc (i .0) = omega arith in rw e
-
-shifted-zero : (f : Found) → shifted 0 f ≡ f
-shifted-zero Nowhere = refl
-shifted-zero (At i) = let z : 0 + i .0 ≡ i .0 = omega arith in rw z
-
-pass-found : (k : Key) (n : ℕ) (bs : List Buffer) → pass (finding k) n Nowhere bs ≡ shifted n (find (holds k) bs)
-unfolding pass find
-pass-found k n [] = refl
-pass-found k n (b ∷ bs) = go (holds k (b .slot)) (pass-found k (suc n) bs)
+-- what is read off is the choice under the limit
+read-off : (b h : ℕ) (bs : List Buffer) (f g : Found) → find isFree bs ≡ g → choiceOf b (ending bs f g h) ≡ limited (mayStore b h) (chooseHeld bs f)
+read-off b h bs Nowhere Nowhere e = rw e (elim (mayStore b h) as (λ x. cond x NoRoom LimitReached ≡ limited x NoRoom) [ true ↦ refl | false ↦ refl ])
+read-off b h bs Nowhere (At i) e = rw e (elim (mayStore b h) as (λ x. cond x (Took i) LimitReached ≡ limited x (Took i)) [ true ↦ refl | false ↦ refl ])
+read-off b h bs (At i) g e = go (isActive (at bs (i .0) .slot))
   where
-    go : (x : Bool) → pass (finding k) (suc n) Nowhere bs ≡ shifted (suc n) (find (holds k) bs)
-        → pass (finding k) (suc n) (cond x (At (record { 0 = n })) Nowhere) bs ≡ shifted n (cond x (At (record { 0 = 0 })) (later (find (holds k) bs)))
-    go true ih = let z : n + 0 ≡ n = omega arith in found-stays k (suc n) (record { 0 = n }) bs ∙ rw z
-    go false ih = ih ∙ shifted-later n (find (holds k) bs)
+    go : (y : Bool) → choiceOf b (cond y (Repeat i) (OwnOld i h)) ≡ limited (mayStore b h) (cond y (Held i) (Reused i))
+    go true = elim (mayStore b h) as (λ x. Held i ≡ limited x (Held i)) [ true ↦ refl | false ↦ refl ]
+    go false = elim (mayStore b h) as (λ x. cond x (Reused i) LimitReached ≡ limited x (Reused i)) [ true ↦ refl | false ↦ refl ]
 
-pub finding-from : (k : Key) (m : ℕ) (ss : List Slot) → Ahead (finding k) m ss (find (holds k) (take m (bare ss))) 0 Nowhere
-finding-from k m ss = record { rest = pass-found k 0 (take m (bare ss)) ∙ shifted-zero (find (holds k) (take m (bare ss))) }
+-- the choice that is read off at the end is the rule's
+pub pass-permitted : (b : ℕ) (k : Key) (bs : List Buffer) → choiceOf b (carriedBy look k bs) ≡ permitted b k bs
+unfolding permitted chosen
+pass-permitted b k bs = ap (choiceOf b) (pass-ending k bs) ∙ read-off b (heldBy (k .lane) bs) bs (find (holds k) bs) (find isFree bs) refl
 
-module _ {k : Key} {m : ℕ} {ss : List Slot} {w : Found} {i : ℕ} where
-  pub not-here : {x : Bool} (d : Slot) → Ahead (finding k) m ss w i Nowhere → x ≡ holds k (getD ss i d) → x ≡ false → i < m → i < length ss
-      → Ahead (finding k) m ss w (i + 1) Nowhere
-  not-here d a e f = onward d a (rw (sym e ∙ f))
+-- ---- the code's pass
 
-  pub found-here : {x : Bool} (d : Slot) → Ahead (finding k) m ss w i Nowhere → x ≡ holds k (getD ss i d) → x ≡ true → i < m → i < length ss
-      → At (record { 0 = i }) ≡ w
-  found-here d a e f l n =
-      let b : Ahead (finding k) m ss w (i + 1) (At (record { 0 = i })) = onward d a (rw (sym e ∙ f)) l n in
-      sym (found-stays k (i + 1) (record { 0 = i }) (drop (i + 1) (take m (bare ss)))) ∙ b .rest
+past-busy : (c : Carried) (n : BufferNumber) → past c n Busy ≡ c
+past-busy (NoneYet h) n = refl
+past-busy (LowestFree m h) n = refl
+past-busy (OwnOld m h) n = refl
+past-busy (Repeat m) n = refl
+
+counted-none : (c : Carried) → counted 0 c ≡ c
+counted-none (NoneYet h) = let z : h + 0 ≡ h = omega arith in rw z
+counted-none (LowestFree m h) = let z : h + 0 ≡ h = omega arith in rw z
+counted-none (OwnOld m h) = let z : h + 0 ≡ h = omega arith in rw z
+counted-none (Repeat m) = refl
+
+-- whether a buffer that so stands to a key counts for the key's lane
+abbrev Counts : Standing → Bool → Type 0
+Counts Busy x = Unit {0}
+Counts Free x = x ≡ false
+Counts Holds x = x ≡ true
+Counts Reusable x = x ≡ false
+
+own-lane : (k : Key) (s : StartSplit) (x : Bool) → sameKey (keyOf s) k ≡ x → Counts (cond x Holds Busy) (sameLane (s .lane) (k .lane))
+own-lane k s true e = ap (λ (a : Key). sameLane (s .lane) (a .lane)) (sym (same-true (keyOf s) k e)) ∙ lane-refl (s .lane)
+own-lane k s false e = tt
+
+counts : (k : Key) (s : Slot) → Counts (standing k s) (activeIn (k .lane) s)
+counts k Empty = refl
+counts k (Pending s p) = own-lane k s (sameKey (keyOf s) k) refl
+counts k (Ready s r) = own-lane k s (sameKey (keyOf s) k) refl
+counts k (Old s r) = elim (sameKey (keyOf s) k) as (λ x. Counts (cond x Reusable Free) false) [ true ↦ refl | false ↦ refl ]
+
+module _ (c : Carried) (n : BufferNumber) (s : Slot) (k : Key) {st : Standing} (stands : st ≡ standing k s) where
+  pub look-counted : {r : Carried} {x : Bool} → st ≡ Busy → x ≡ activeIn (k .lane) s → x ≡ true → r ≡ counted 1 c → r ≡ look c n s k
+  unfolding look
+  look-counted e f g h = rw (sym stands ∙ e, sym f ∙ g, past-busy c n, h)
+
+  pub look-other : {x : Bool} → st ≡ Busy → x ≡ activeIn (k .lane) s → x ≡ false → c ≡ look c n s k
+  unfolding look
+  look-other e f g = rw (sym stands ∙ e, sym f ∙ g, past-busy c n, counted-none c)
+
+  as-it-stands : {y : Standing} → st ≡ y → Counts y (activeIn (k .lane) s)
+  as-it-stands e = subst (λ (y : Standing). Counts y (activeIn (k .lane) s)) (sym stands ∙ e) (counts k s)
+
+  pub look-free : {r : Carried} → st ≡ Free → r ≡ past c n Free → r ≡ look c n s k
+  unfolding look
+  look-free e h = let f : activeIn (k .lane) s ≡ false = as-it-stands e in rw (sym stands ∙ e, f, h, counted-none (past c n Free))
+
+  pub look-repeat : {r : Carried} → st ≡ Holds → r ≡ counted 1 (past c n Holds) → r ≡ look c n s k
+  unfolding look
+  look-repeat e h = let f : activeIn (k .lane) s ≡ true = as-it-stands e in rw (sym stands ∙ e, f, h)
+
+  pub look-old : {r : Carried} → st ≡ Reusable → r ≡ past c n Reusable → r ≡ look c n s k
+  unfolding look
+  look-old e h = let f : activeIn (k .lane) s ≡ false = as-it-stands e in rw (sym stands ∙ e, f, h, counted-none (past c n Reusable))
+
+-- past one more buffer the lane holds at most one more
+one-more : (c : Carried) (n : BufferNumber) (st : Standing) (x : Bool) → heldSoFar (counted (bit x) (past c n st)) ≤ heldSoFar c + 1
+one-more c n st x = omega (arith, sum (past c n st) (bit x), kept c st, bit-le x)
+  where
+    bit-le : (y : Bool) → bit y ≤ 1
+    bit-le true = omega arith
+    bit-le false = omega arith
+
+    sum : (d : Carried) (a : ℕ) → heldSoFar (counted a d) ≤ heldSoFar d + a
+    sum (NoneYet h) a = omega arith
+    sum (LowestFree m h) a = omega arith
+    sum (OwnOld m h) a = omega arith
+    sum (Repeat m) a = omega arith
+
+    kept : (d : Carried) (y : Standing) → heldSoFar (past d n y) ≤ heldSoFar d
+    kept (NoneYet h) Busy = omega arith
+    kept (NoneYet h) Free = omega arith
+    kept (NoneYet h) Holds = omega arith
+    kept (NoneYet h) Reusable = omega arith
+    kept (LowestFree m h) Busy = omega arith
+    kept (LowestFree m h) Free = omega arith
+    kept (LowestFree m h) Holds = omega arith
+    kept (LowestFree m h) Reusable = omega arith
+    kept (OwnOld m h) y = omega arith
+    kept (Repeat m) y = omega arith
+
+-- so that it holds no more than the buffers so far
+pub few : (c : Carried) (n : BufferNumber) (s : Slot) (k : Key) {d : Carried} {i : ℕ} → d ≡ look c n s k → heldSoFar c ≤ i → heldSoFar d ≤ i + 1
+unfolding look
+few c n s k e l = rw e (omega (arith, one-more c n (standing k s) (activeIn (k .lane) s), l))
+
+-- it starts with nothing in hand, ..
+pub looking-from : (k : Key) (m : ℕ) (ss : List Slot) → Ahead (looking k) m ss (carriedBy look k (take m (bare ss))) 0 (NoneYet 0)
+looking-from k m ss = record { rest = refl }
+
+-- .. and may end where it is settled
+pub ends-settled : (k : Key) {m : ℕ} {ss : List Slot} {w : Carried} {i : ℕ} (c : Carried) → Ahead (looking k) m ss w i c → isSettled c ≡ true → c ≡ w
+ends-settled k (NoneYet h) a e = absurd (false≢true e)
+ends-settled k (LowestFree n h) a e = absurd (false≢true e)
+ends-settled k (OwnOld n h) a e = absurd (false≢true e)
+ends-settled k {m} {ss} {i = i} (Repeat n) a e = sym (settled k i n (drop i (take m (bare ss)))) ∙ a .rest

@@ -1,6 +1,6 @@
 -- How the code of a start-split is put together. Assumes nothing.
 use Prim.Native.Nat.{ℕ}
-use mathlib.Core.Path.{_≡_}
+use mathlib.Core.Path.{_≡_, refl}
 use mathlib.Core.Bool.{true}
 use mathlib.Core.List.{List}
 use lib.ListN.{length, take}
@@ -16,6 +16,8 @@ use Rattle.buffer.specs.declared.Buffer.{Buffer}
 use Rattle.buffer.specs.declared.BufferNumber.{BufferNumber}
 use Rattle.translator.specs.declared.Translator.{Translator}
 use Rattle.translator.specs.declared.Choice.{Choice}
+use Rattle.translator.specs.declared.Choice.the-variants.{NoRoom, LimitReached, Held, Reused, Took}
+use Rattle.translator.specs.declared.StartAnswer.the-variants.{Chosen}
 use Rattle.translator.specs.Limit.{permitted}
 use Rattle.translator.specs.Translator.{withBuffer}
 use Rattle.translator.specs.Slots.{slotsIn, bare}
@@ -35,3 +37,16 @@ pub by-choice : (t : Translator) (s : StartSplit) (l : List ℕ) {k : Key} (c : 
     → c ≡ permitted (t .count) k (take (t .count) (t .buffers)) → startBy t s l c ≡ startSplit t s l
 unfolding startSplit
 by-choice t s l c f e g = rw (f, ← e, ← g)
+
+-- and is answered
+by-answer : (t : Translator) (s : StartSplit) (l : List ℕ) (c : Choice) → startBy t s l c .answer ≡ Chosen c
+by-answer t s l NoRoom = refl
+by-answer t s l LimitReached = refl
+by-answer t s l (Held n) = refl
+by-answer t s l (Reused n) = refl
+by-answer t s l (Took n) = refl
+
+pub chosen-answer : (t : Translator) (s : StartSplit) (l : List ℕ) → startFits s (length l) ≡ true
+    → startSplit t s l .answer ≡ Chosen (permitted (t .count) (keyOf s) (take (t .count) (t .buffers)))
+unfolding startSplit
+chosen-answer t s l e = rw e (by-answer t s l (permitted (t .count) (keyOf s) (take (t .count) (t .buffers))))

@@ -4,6 +4,7 @@ pub mod Search
 pub mod Order
 pub mod Limit
 pub mod StartSplit
+pub mod TwoSteps
 pub mod CompleteSplit
 pub mod Launch
 pub mod Deliver
@@ -11,5 +12,8 @@ pub mod Clear
 pub mod ResetLane
 pub mod Answers
 pub mod Valid
+pub mod OnePass
+pub mod SearchMistakes
+pub mod SearchCases
 pub mod Claims
 pub mod Cases

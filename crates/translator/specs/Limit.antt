@@ -9,17 +9,14 @@ use lib.Dec.{ltb}
 use lib.ListN.{take}
 use Rattle.buffer.specs.declared.Lane.{Lane}
 use Rattle.buffer.specs.declared.Key.{Key}
-use Rattle.buffer.specs.declared.Slot.{Slot}
 use Rattle.buffer.specs.declared.Buffer.{Buffer}
-use Rattle.buffer.specs.declared.BufferNumber.{BufferNumber}
-use Rattle.buffer.specs.Buffer.{isActive, holds, activeIn, standing}
+use Rattle.buffer.specs.Buffer.{isActive, holds, activeIn}
 use Rattle.translator.specs.declared.Translator.{Translator}
 use Rattle.translator.specs.declared.Choice.{Choice}
 use Rattle.translator.specs.declared.Choice.the-variants.{NoRoom, LimitReached, Held, Reused, Took}
-use Rattle.translator.specs.declared.Searched.{Searched}
 use Rattle.translator.specs.Translator.{at}
-use Rattle.translator.specs.Search.{chosen, looked}
-use Rattle.translator.specs.Order.{bit, tally}
+use Rattle.translator.specs.Search.{chosen}
+use Rattle.translator.specs.Order.{tally}
 
 -- how many buffers the lane l holds pending or ready
 abbrev pub heldBy : Lane → List Buffer → ℕ
@@ -41,14 +38,6 @@ limited false (Took n) = LimitReached
 -- what a start-split under the key k does, of the b buffers bs
 unfoldable pub permitted : ℕ → Key → List Buffer → Choice
 permitted b k bs = limited (mayStore b (heldBy (k .lane) bs)) (chosen k bs)
-
--- what the one pass finds
-abbrev pub searched : Key → List Buffer → Searched
-searched k bs = record { choice = chosen k bs; active = heldBy (k .lane) bs }
-
--- what it carries on past a buffer
-abbrev pub searching : Key → Searched → Slot → BufferNumber → Searched
-searching k c s n = record { choice = looked (c .choice) (standing k s) n; active = c .active + bit (activeIn (k .lane) s) }
 
 -- ---- the same of a translator, in the request's words
 

@@ -1,5 +1,5 @@
--- The search of a start-split. A reader must believe `chosen`: the two steps of document 01's rule. The code looks at each buffer
--- once, in rising number, and carries `looked` on; that this gives the choice is proved.
+-- The search of a start-split. A reader must believe `chosen`: the two steps of document 01's rule. The code makes it in one pass (OnePass),
+-- and that this gives the choice is proved.
 use Prim.Native.Nat.{ℕ, suc}
 use mathlib.Core.Bool.{Bool, cond}
 use mathlib.Core.List.{List, [], _∷_}
@@ -7,13 +7,11 @@ use Rattle.buffer.specs.declared.Key.{Key}
 use Rattle.buffer.specs.declared.Slot.{Slot}
 use Rattle.buffer.specs.declared.Buffer.{Buffer}
 use Rattle.buffer.specs.declared.BufferNumber.{BufferNumber}
-use Rattle.buffer.specs.declared.Standing.{Standing}
-use Rattle.buffer.specs.declared.Standing.the-variants.{Busy, Free, Holds, Reusable}
 use Rattle.buffer.specs.Buffer.{holds, isActive, isFree}
 use Rattle.translator.specs.declared.Found.{Found}
 use Rattle.translator.specs.declared.Found.the-variants.{Nowhere, At}
 use Rattle.translator.specs.declared.Choice.{Choice}
-use Rattle.translator.specs.declared.Choice.the-variants.{NoRoom, LimitReached, Held, Reused, Took}
+use Rattle.translator.specs.declared.Choice.the-variants.{NoRoom, Held, Reused, Took}
 use Rattle.translator.specs.Translator.{at}
 
 abbrev pub later : Found → Found
@@ -39,21 +37,7 @@ chooseHeld bs (At n) = cond (isActive (at bs (n .0) .slot)) (Held n) (Reused n)
 unfoldable pub chosen : Key → List Buffer → Choice
 chosen k bs = chooseHeld bs (find (holds k) bs)
 
--- what is carried on past a buffer that so stands to the key
-abbrev pub looked : Choice → Standing → BufferNumber → Choice
-looked NoRoom Busy n = NoRoom
-looked NoRoom Free n = Took n
-looked NoRoom Holds n = Held n
-looked NoRoom Reusable n = Reused n
-looked LimitReached s n = LimitReached
-looked (Held m) s n = Held m
-looked (Reused m) s n = Reused m
-looked (Took m) Busy n = Took m
-looked (Took m) Free n = Took m
-looked (Took m) Holds n = Held n
-looked (Took m) Reusable n = Reused n
-
--- a pass over the buffers from number n on, with c carried so far
+-- a pass over the buffers from number n on, with c carried so far: the left fold of f over their slots and numbers
 unfoldable pub pass : {C : Type 0} → (C → Slot → BufferNumber → C) → ℕ → C → List Buffer → C
 pass f n c [] = c
 pass f n c (b ∷ bs) = pass f (suc n) (f c (b .slot) (record { 0 = n })) bs

@@ -4,9 +4,11 @@ ghost use Prim.Native.Nat.{_+_, _≤_};
 ghost use lib.ListN.{take};
 ghost use Rattle.translator.specs.Translator.{newTranslator, at, withBuffer, withLow, emptied};
 ghost use Rattle.translator.specs.Slots.{slotsIn, bare};
-ghost use Rattle.translator.specs.Search.{looked, find};
+ghost use Rattle.translator.specs.Search.{find};
 ghost use Rattle.buffer.specs.Buffer.{holds, isPending};
-ghost use Rattle.translator.specs.Limit.{mayStore, limited, permitted, searched};
+ghost use Rattle.translator.specs.Limit.{mayStore, permitted};
+ghost use Rattle.translator.specs.OnePass.{past, counted, look, isSettled, heldSoFar, carriedBy, choiceOf, OnePass};
+ghost use Rattle.translator.specs.SearchMistakes.{SearchMistakesShutOut};
 ghost use Rattle.translator.specs.Order.{bit, isBefore, waiting, before, rankedIn, ranked, sooner, earliest};
 ghost use Rattle.translator.specs.StartSplit.{stored, startSplit};
 ghost use Rattle.translator.specs.CompleteSplit.{given, completed, completeSplit};
@@ -16,6 +18,7 @@ ghost use Rattle.translator.specs.Clear.{lowWithout, clearBuffer};
 ghost use Rattle.translator.specs.ResetLane.{withoutLane, lowWithoutLane, resetLane};
 ghost use Rattle.translator.specs.Claims.{TranslatorClaims};
 ghost use Rattle.translator.specs.Cases.{CasesHold};
+ghost use Rattle.translator.specs.SearchCases.{SearchCasesHold};
 use buffer::Buffer;
 use buffer::BufferCount;
 use buffer::BufferNumber;
@@ -58,10 +61,17 @@ pub enum Choice {
     Took(BufferNumber),
 }
 
-// What one pass over the slots finds: the choice, the limit apart, and how many buffers the key's lane holds pending or ready.
-pub struct Searched {
-    pub choice: Choice,
-    pub active: u8,
+// What the search of a start-split carries on from buffer to buffer (the accumulator of a fold): numbers and flags, no key and no payload.
+// Which of the four it is says what the buffer number names; the u8 is how many buffers so far the key's lane holds pending or ready.
+pub enum Carried {
+    // none has the key, none is empty or old
+    NoneYet(u8),
+    // none has the key; the lowest-numbered empty or old one
+    LowestFree(BufferNumber, u8),
+    // the lowest-numbered one with the key, which is old
+    OwnOld(BufferNumber, u8),
+    // the lowest-numbered one with the key, which is pending or ready: settled
+    Repeat(BufferNumber),
 }
 
 // The pending buffer accepted first, with its place.
@@ -119,82 +129,153 @@ pub struct Delivered {
 
 // ---- the search of a start-split
 
-// What the search carries on from one buffer to the next: numbers and flags alone.
-fn look(sofar: Choice, standing: Standing, n: BufferNumber) -> Choice
-    ensures { λ r. ⌜ r ≡ looked sofar standing n ⌝ }
-{
-    match sofar {
-        Choice::NoRoom => match standing {
-            Standing::Busy => Choice::NoRoom,
-            Standing::Free => Choice::Took(n),
-            Standing::Holds => Choice::Held(n),
-            Standing::Reusable => Choice::Reused(n),
-        },
-        Choice::LimitReached => Choice::LimitReached,
-        Choice::Held(m) => Choice::Held(m),
-        Choice::Reused(m) => Choice::Reused(m),
-        Choice::Took(m) => match standing {
-            Standing::Busy => Choice::Took(m),
-            Standing::Free => Choice::Took(m),
-            Standing::Holds => Choice::Held(n),
-            Standing::Reusable => Choice::Reused(n),
-        },
+impl Carried {
+    // One more that the lane holds pending or ready.
+    fn counted(self) -> Carried
+        requires { ⌜ heldSoFar self ≤ 3 ⌝ }
+        ensures { λ r. ⌜ r ≡ counted 1 self ⌝ }
+    {
+        match self {
+            Carried::NoneYet(held) => Carried::NoneYet(held + 1),
+            Carried::LowestFree(m, held) => Carried::LowestFree(m, held + 1),
+            Carried::OwnOld(m, held) => Carried::OwnOld(m, held + 1),
+            Carried::Repeat(m) => Carried::Repeat(m),
+        }
+    }
+
+    // Past an empty one, or one that is old under another key.
+    fn past_free(self, n: BufferNumber) -> Carried
+        ensures { λ r. ⌜ r ≡ past self n Standing.Free ⌝ }
+    {
+        match self {
+            Carried::NoneYet(held) => Carried::LowestFree(n, held),
+            Carried::LowestFree(m, held) => Carried::LowestFree(m, held),
+            Carried::OwnOld(m, held) => Carried::OwnOld(m, held),
+            Carried::Repeat(m) => Carried::Repeat(m),
+        }
+    }
+
+    // Past one with the key that is pending or ready.
+    fn past_repeat(self, n: BufferNumber) -> Carried
+        requires { ⌜ heldSoFar self ≤ 3 ⌝ }
+        ensures { λ r. ⌜ r ≡ counted 1 (past self n Standing.Holds) ⌝ }
+    {
+        match self {
+            Carried::NoneYet(_) => Carried::Repeat(n),
+            Carried::LowestFree(_, _) => Carried::Repeat(n),
+            Carried::OwnOld(m, held) => Carried::OwnOld(m, held + 1),
+            Carried::Repeat(m) => Carried::Repeat(m),
+        }
+    }
+
+    // Past one with the key that is old.
+    fn past_old(self, n: BufferNumber) -> Carried
+        ensures { λ r. ⌜ r ≡ past self n Standing.Reusable ⌝ }
+    {
+        match self {
+            Carried::NoneYet(held) => Carried::OwnOld(n, held),
+            Carried::LowestFree(_, held) => Carried::OwnOld(n, held),
+            Carried::OwnOld(m, held) => Carried::OwnOld(m, held),
+            Carried::Repeat(m) => Carried::Repeat(m),
+        }
+    }
+
+    // Whether no later buffer changes the outcome.
+    fn is_settled(self) -> bool
+        ensures { λ r. ⌜ r ≡ isSettled self ⌝ }
+    {
+        match self {
+            Carried::NoneYet(_) => false,
+            Carried::LowestFree(_, _) => false,
+            Carried::OwnOld(_, _) => false,
+            Carried::Repeat(_) => true,
+        }
+    }
+
+    // The choice, read off at the end.
+    fn choice(self, count: BufferCount) -> Choice
+        ensures { λ r. ⌜ r ≡ choiceOf (count .0) self ⌝ }
+    {
+        match self {
+            Carried::NoneYet(held) => {
+                if may_store(count, held) {
+                    Choice::NoRoom
+                } else {
+                    Choice::LimitReached
+                }
+            }
+            Carried::LowestFree(n, held) => {
+                if may_store(count, held) {
+                    Choice::Took(n)
+                } else {
+                    Choice::LimitReached
+                }
+            }
+            Carried::OwnOld(n, held) => {
+                if may_store(count, held) {
+                    Choice::Reused(n)
+                } else {
+                    Choice::LimitReached
+                }
+            }
+            Carried::Repeat(n) => Choice::Held(n),
+        }
     }
 }
 
-// One pass over the slots of the first `count` buffers, in rising number.
-fn one_pass(slots: [Slot; 4], count: BufferCount, key: Key) -> Searched
-    ensures { λ r. ⌜ r ≡ searched key (take (count .0) (bare slots)) ⌝ }
+// What is carried on past buffer n, in the search of a start-split with the key.
+fn look(carried: Carried, n: BufferNumber, slot: Slot, key: Key) -> Carried
+    requires { ⌜ heldSoFar carried ≤ 3 ⌝ }
+    ensures { λ r. ⌜ r ≡ look carried n slot key ⌝ }
 {
     let lane = key.lane;
-    let used = count.0 as usize;
-    let mut choice = Choice::NoRoom;
-    let mut active: u8 = 0;
-    let mut i: usize = 0;
-    while i < 4 {
-        if used <= i {
-            return Searched { choice, active };
+    match slot.standing(key) {
+        Standing::Busy => {
+            if slot.is_active_in(lane) {
+                carried.counted()
+            } else {
+                carried
+            }
         }
-        let slot = slots[i];
-        choice = look(choice, slot.standing(key), BufferNumber(i as u8));
-        active += bit_of(slot.is_active_in(lane));
-        i += 1;
+        Standing::Free => carried.past_free(n),
+        Standing::Holds => carried.past_repeat(n),
+        Standing::Reusable => carried.past_old(n),
     }
-    Searched { choice, active }
+}
+
+// One pass over the slots of the first `count` buffers, in rising number, up to where it is settled.
+fn one_pass(slots: [Slot; 4], count: BufferCount, key: Key) -> Carried
+    ensures { λ r. ⌜ r ≡ carriedBy look key (take (count .0) (bare slots)) ⌝ }
+{
+    let used = count.0 as usize;
+    let mut carried = Carried::NoneYet(0);
+    let mut n: usize = 0;
+    while n < 4 {
+        if used <= n {
+            return carried;
+        }
+        let slot = slots[n];
+        carried = look(carried, BufferNumber(n as u8), slot, key);
+        if carried.is_settled() {
+            return carried;
+        }
+        n += 1;
+    }
+    carried
 }
 
 // Whether a lane that holds so many of the buffers pending or ready may store one more.
-fn may_store(count: BufferCount, active: u8) -> bool
-    ensures { λ r. ⌜ r ≡ mayStore (count .0) active ⌝ }
+fn may_store(count: BufferCount, held: u8) -> bool
+    ensures { λ r. ⌜ r ≡ mayStore (count .0) held ⌝ }
 {
-    (active as usize) + 1 < count.0 as usize
-}
-
-impl Choice {
-    // What is chosen where the lane may store, or may not.
-    fn limited(self, may: bool) -> Choice
-        ensures { λ r. ⌜ r ≡ limited may self ⌝ }
-    {
-        if may {
-            return self;
-        }
-        match self {
-            Choice::NoRoom => Choice::LimitReached,
-            Choice::LimitReached => Choice::LimitReached,
-            Choice::Held(n) => Choice::Held(n),
-            Choice::Reused(_) => Choice::LimitReached,
-            Choice::Took(_) => Choice::LimitReached,
-        }
-    }
+    (held as usize) + 1 < count.0 as usize
 }
 
 // What a start-split under the key does.
 pub fn choose(slots: [Slot; 4], count: BufferCount, key: Key) -> Choice
     ensures { λ r. ⌜ r ≡ permitted (count .0) key (take (count .0) (bare slots)) ⌝ }
 {
-    let found = one_pass(slots, count, key);
-    let choice = found.choice;
-    choice.limited(may_store(count, found.active))
+    one_pass(slots, count, key).choice(count)
 }
 
 // The buffer that holds a key.
@@ -752,4 +833,17 @@ fn translator_claims()
 // A payload of 64 bytes, a short result after a long one, a late result.
 fn translator_cases()
     ensures { λ _. ⌜ CasesHold ⌝ }
+{}
+
+fn one_pass_claim()
+    ensures { λ _. ⌜ OnePass look ⌝ }
+{}
+
+fn search_mistakes()
+    ensures { λ _. ⌜ SearchMistakesShutOut ⌝ }
+{}
+
+// What is carried past each buffer, and the choice.
+fn search_cases()
+    ensures { λ _. ⌜ SearchCasesHold ⌝ }
 {}

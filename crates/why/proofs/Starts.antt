@@ -1,30 +1,30 @@
 -- A start-split: the reason that the search gives is true, and no other is. Assumes nothing.
-use Prim.Native.Nat.{ℕ, _<_, _≤_}
-use native.Mathlib.Omega.{arith}
+use Prim.Native.Nat.{ℕ}
 use mathlib.Core.Path.{_≡_, refl, sym, _∙_, ap}
 use mathlib.Core.Option.{some}
 use mathlib.Core.Bool.{Bool, true, false, cond, and-eq-true-iff, true≢false, false≢true}
 use mathlib.Core.List.{List}
-use borrow.Author.Tests.{ltb-true, ltb-false}
-use lib.Dec.{ltb}
-use lib.ListN.{length, take, length-take}
+use lib.ListN.{length, take}
 use Rattle.buffer.specs.declared.Key.{Key}
 use Rattle.buffer.specs.declared.Slot.{Slot}
-use Rattle.buffer.specs.declared.Slot.the-variants.{Empty, Pending, Ready, Old}
 use Rattle.buffer.specs.declared.BufferNumber.{BufferNumber}
 use Rattle.buffer.specs.declared.StartSplit.{StartSplit}
-use Rattle.buffer.specs.Key.{keyOf, sameKey}
+use Rattle.buffer.specs.Key.{keyOf}
 use Rattle.buffer.specs.Lengths.{startFits}
 use Rattle.buffer.specs.Buffer.{isActive, isFree, holds}
-use Rattle.buffer.proofs.Keys.{same-true, same-eq, same-ne}
+use Rattle.buffer.specs.Words.{Holding, Vacated}
+use Rattle.buffer.proofs.Words.{holding, holding-holds, holding-active, old, old-holds, old-idle, with-holds, holds-with, elsewhere, elsewhere-unheld, elsewhere-busy, vacated, vacated-free}
 use Rattle.translator.specs.declared.Choice.{Choice}
 use Rattle.translator.specs.declared.Choice.the-variants as choice
 use Rattle.translator.specs.declared.StartAnswer.the-variants.{Chosen}
 use Rattle.translator.specs.declared.Translator.{Translator}
 use Rattle.translator.specs.Limit.{permitted}
-use Rattle.translator.specs.StartSplit.{startBy, startSplit}
+use Rattle.translator.specs.TwoSteps.{InUse}
+use Rattle.translator.specs.StartSplit.{startSplit}
 use Rattle.translator.specs.Valid.{Apart}
 use Rattle.translator.proofs.Finding.{Hit, Miss, Holder, ChosenSays, TookLowest, permitted-lowest, may-store, may-not-store, isHeld, PermittedSays, permitted-says}
+use Rattle.translator.proofs.TwoSteps.{small, inside, hit-used, lowest-one, fails}
+use Rattle.translator.proofs.StartSplit.{chosen-answer}
 use Rattle.hub.specs.declared.Hub.{Hub}
 use Rattle.translator.specs.Answers.{choiceNumber}
 use Rattle.numbers.specs.Split.{splitNamed, splitFrom}
@@ -34,92 +34,8 @@ use Rattle.hub.specs.Step.{within}
 use Rattle.runs.specs.Refusals.{slotAt}
 use Rattle.why.specs.declared.Reason.{Reason}
 use Rattle.why.specs.declared.Reason.the-variants.{Nothing, Number, HeldBy, Reused, TookFree, LimitReached, NoRoom, Changed, Wrong}
-use Rattle.why.specs.Said.{Holding, OldWith, Elsewhere, With, Vacated, InUse, SaidOfStart, enoughFor}
+use Rattle.why.specs.Said.{SaidOfStart, enoughFor}
 use Rattle.why.specs.Why.{choiceReason}
-
--- ---- the words and the tests, slot by slot
-
-module _ (k : Key) where
-  holding : (s : Slot) → holds k s ≡ true → isActive s ≡ true → Holding k s
-  holding Empty e f = false≢true e
-  holding (Pending s p) e f = same-true (keyOf s) k e
-  holding (Ready s r) e f = same-true (keyOf s) k e
-  holding (Old s r) e f = false≢true f
-
-  holding-holds : (s : Slot) → Holding k s → holds k s ≡ true
-  holding-holds Empty w = absurd w
-  holding-holds (Pending s p) w = same-eq (keyOf s) k w
-  holding-holds (Ready s r) w = same-eq (keyOf s) k w
-  holding-holds (Old s r) w = absurd w
-
-  holding-active : (s : Slot) → Holding k s → isActive s ≡ true
-  holding-active Empty w = absurd w
-  holding-active (Pending s p) w = refl
-  holding-active (Ready s r) w = refl
-  holding-active (Old s r) w = absurd w
-
-  old : (s : Slot) → holds k s ≡ true → isActive s ≡ false → OldWith k s
-  old Empty e f = false≢true e
-  old (Pending s p) e f = true≢false f
-  old (Ready s r) e f = true≢false f
-  old (Old s r) e f = same-true (keyOf s) k e
-
-  old-holds : (s : Slot) → OldWith k s → holds k s ≡ true
-  old-holds Empty w = absurd w
-  old-holds (Pending s p) w = absurd w
-  old-holds (Ready s r) w = absurd w
-  old-holds (Old s r) w = same-eq (keyOf s) k w
-
-  old-idle : (s : Slot) → OldWith k s → isActive s ≡ false
-  old-idle Empty w = absurd w
-  old-idle (Pending s p) w = absurd w
-  old-idle (Ready s r) w = absurd w
-  old-idle (Old s r) w = refl
-
-  with-holds : (s : Slot) → With k s → holds k s ≡ true
-  with-holds Empty w = absurd w
-  with-holds (Pending s p) w = same-eq (keyOf s) k w
-  with-holds (Ready s r) w = same-eq (keyOf s) k w
-  with-holds (Old s r) w = same-eq (keyOf s) k w
-
-  holds-with : (s : Slot) → holds k s ≡ true → With k s
-  holds-with Empty e = false≢true e
-  holds-with (Pending s p) e = same-true (keyOf s) k e
-  holds-with (Ready s r) e = same-true (keyOf s) k e
-  holds-with (Old s r) e = same-true (keyOf s) k e
-
-  vacated : (s : Slot) → isFree s ≡ true → Vacated s
-  vacated Empty e = tt
-  vacated (Pending s p) e = false≢true e
-  vacated (Ready s r) e = false≢true e
-  vacated (Old s r) e = tt
-
-  vacated-free : (s : Slot) → Vacated s → isFree s ≡ true
-  vacated-free Empty w = refl
-  vacated-free (Pending s p) w = absurd w
-  vacated-free (Ready s r) w = absurd w
-  vacated-free (Old s r) w = refl
-
-  unequal : (a : Key) → sameKey a k ≡ false → ¬ (a ≡ k)
-  unequal a e f = true≢false (sym (same-eq a k f) ∙ e)
-
-  elsewhere : (s : Slot) → holds k s ≡ false → isFree s ≡ false → Elsewhere k s
-  elsewhere Empty e f = true≢false f
-  elsewhere (Pending s p) e f = unequal (keyOf s) e
-  elsewhere (Ready s r) e f = unequal (keyOf s) e
-  elsewhere (Old s r) e f = true≢false f
-
-  elsewhere-unheld : (s : Slot) → Elsewhere k s → holds k s ≡ false
-  elsewhere-unheld Empty w = absurd w
-  elsewhere-unheld (Pending s p) w = same-ne (keyOf s) k w
-  elsewhere-unheld (Ready s r) w = same-ne (keyOf s) k w
-  elsewhere-unheld (Old s r) w = absurd w
-
-  elsewhere-busy : (s : Slot) → Elsewhere k s → isFree s ≡ false
-  elsewhere-busy Empty w = absurd w
-  elsewhere-busy (Pending s p) w = refl
-  elsewhere-busy (Ready s r) w = refl
-  elsewhere-busy (Old s r) w = absurd w
 
 -- ---- any hub
 
@@ -133,53 +49,41 @@ module _ (h : Hub) (k : Key) where
   abbrev pub Says : Choice → Type 0
   Says c = PermittedSays (t .count) k (t .count) (t .buffers) c
 
-  small : (i : ℕ) → InUse h i → i < t .count
-  small i l = omega (arith, l, length-take (t .count) (t .buffers))
-
-  inside : (i : ℕ) → InUse h i → i < length (t .buffers)
-  inside i l = omega (arith, l, length-take (t .count) (t .buffers))
-
-  used : (i : ℕ) → i < t .count → i < length (t .buffers) → InUse h i
-  used i l m = omega (arith, l, m, length-take (t .count) (t .buffers))
-
-  hit-used : (f : Slot → Bool) (i : ℕ) → Hit f (t .count) (t .buffers) i → InUse h i
-  hit-used f i r = used i (r .small) (r .inside)
-
   -- no two buffers hold the key: where the search found no pending or ready one with it first, there is none
-  no-repeat : Apart (holds k) (t .buffers) → (c : Choice) → ChosenSays k (t .count) (t .buffers) c → isHeld c ≡ false → (i : ℕ) → InUse h i → ¬ (Holding k (slot i))
-  no-repeat apart choice.NoRoom r u i l v = true≢false (sym (holding-holds k (slot i) v) ∙ r .none i (small i l) (inside i l))
+  no-repeat : Apart (holds k) (t .buffers) → (c : Choice) → ChosenSays k (t .count) (t .buffers) c → isHeld c ≡ false → (i : ℕ) → InUse (h .translator) i → ¬ (Holding k (slot i))
+  no-repeat apart choice.NoRoom r u i l v = true≢false (sym (holding-holds k (slot i) v) ∙ r .none i (small t i l) (inside t i l))
   no-repeat apart choice.LimitReached r u i l v = r
   no-repeat apart (choice.Held n) r u i l v = true≢false u
   no-repeat apart (choice.Reused n) r u i l v =
       true≢false (sym (holding-active k (slot i) v) ∙ ap (λ (j : ℕ). isActive (slot j)) (apart i (n .0) (holding-holds k (slot i) v) (r .found .passes)) ∙ r .active)
-  no-repeat apart (choice.Took n) r u i l v = true≢false (sym (holding-holds k (slot i) v) ∙ r .none i (small i l) (inside i l))
+  no-repeat apart (choice.Took n) r u i l v = true≢false (sym (holding-holds k (slot i) v) ∙ r .none i (small t i l) (inside t i l))
 
   -- what was chosen says of the hub what the reason says
   pub start-true : Apart (holds k) (t .buffers) → (c : Choice) → Says c → TookLowest (t .buffers) c → SaidOfStart (choiceReason c) h k
-  start-true apart choice.NoRoom r w = (may-store t (k .lane) (r .may), λ i l. elsewhere k (slot i) (r .says .none i (small i l) (inside i l)) (r .says .free i (small i l) (inside i l)))
+  start-true apart choice.NoRoom r w = (may-store t (k .lane) (r .may), λ i l. elsewhere k (slot i) (r .says .none i (small t i l) (inside t i l)) (r .says .free i (small t i l) (inside t i l)))
   start-true apart choice.LimitReached r w = record { full = may-not-store t (k .lane) (r .full); no-repeat = no-repeat apart (r .wanted) (r .says) (r .unheld) }
   start-true apart (choice.Held n) r w =
-      record { in-use = hit-used (holds k) (n .0) (r .found); so = holding k (slot (n .0)) (r .found .passes) (r .active) }
+      record { in-use = hit-used t (holds k) (n .0) (r .found); so = holding k (slot (n .0)) (r .found .passes) (r .active) }
   start-true apart (choice.Reused n) r w =
-      (may-store t (k .lane) (r .may), record { in-use = hit-used (holds k) (n .0) (r .says .found); so = old k (slot (n .0)) (r .says .found .passes) (r .says .active) })
+      (may-store t (k .lane) (r .may), record { in-use = hit-used t (holds k) (n .0) (r .says .found); so = old k (slot (n .0)) (r .says .found .passes) (r .says .active) })
   start-true apart (choice.Took n) r w =
       record {
         may = may-store t (k .lane) (r .may);
-        free = record { in-use = hit-used isFree (n .0) (r .says .free); so = vacated k (slot (n .0)) (r .says .free .passes) };
-        lowest = λ i l v. true≢false (sym (vacated-free k (slot i) v) ∙ w i l);
-        no-match = λ i l v. true≢false (sym (with-holds k (slot i) v) ∙ r .says .none i (small i l) (inside i l));
+        free = record { in-use = hit-used t isFree (n .0) (r .says .free); so = vacated (slot (n .0)) (r .says .free .passes) };
+        lowest = λ i l v. true≢false (sym (vacated-free (slot i) v) ∙ w i l);
+        no-match = λ i l v. true≢false (sym (with-holds k (slot i) v) ∙ r .says .none i (small t i l) (inside t i l));
       }
 
   -- a buffer passes the test, where none does
-  missed : (f : Slot → Bool) (b : BufferNumber) → InUse h (b .0) → f (slot (b .0)) ≡ true → Miss f (t .count) (t .buffers) → ⊥
-  missed f b l e m = true≢false (sym e ∙ m (b .0) (small (b .0) l) (inside (b .0) l))
+  missed : (f : Slot → Bool) (b : BufferNumber) → InUse (h .translator) (b .0) → f (slot (b .0)) ≡ true → Miss f (t .count) (t .buffers) → ⊥
+  missed f b l e m = true≢false (sym e ∙ m (b .0) (small t (b .0) l) (inside t (b .0) l))
 
   -- a buffer passes the test, where every buffer is pending or ready under another key
   no-holder : SaidOfStart NoRoom h k → (n : BufferNumber) → Hit (holds k) (t .count) (t .buffers) (n .0) → ⊥
-  no-holder s n r = true≢false (sym (r .passes) ∙ elsewhere-unheld k (slot (n .0)) (s .1 (n .0) (hit-used (holds k) (n .0) r)))
+  no-holder s n r = true≢false (sym (r .passes) ∙ elsewhere-unheld k (slot (n .0)) (s .1 (n .0) (hit-used t (holds k) (n .0) r)))
 
   none-free : SaidOfStart NoRoom h k → (n : BufferNumber) → Hit isFree (t .count) (t .buffers) (n .0) → ⊥
-  none-free s n r = true≢false (sym (r .passes) ∙ elsewhere-busy k (slot (n .0)) (s .1 (n .0) (hit-used isFree (n .0) r)))
+  none-free s n r = true≢false (sym (r .passes) ∙ elsewhere-busy k (slot (n .0)) (s .1 (n .0) (hit-used t isFree (n .0) r)))
 
   -- ---- enough
 
@@ -195,7 +99,7 @@ module _ (h : Hub) (k : Key) where
   start-enough apart (Reused b) a (choice.Held n) s r e = cc
   start-enough apart (Reused b) a (choice.Reused n) s r e = cc
   start-enough apart (Reused b) a (choice.Took n) s r e = cc
-  start-enough apart (TookFree b) a choice.NoRoom s r e = absurd (missed isFree b (s .free .in-use) (vacated-free k (slot (b .0)) (s .free .so)) (r .says .free))
+  start-enough apart (TookFree b) a choice.NoRoom s r e = absurd (missed isFree b (s .free .in-use) (vacated-free (slot (b .0)) (s .free .so)) (r .says .free))
   start-enough apart (TookFree b) a choice.LimitReached s r e = absurd (s .may (may-not-store t (k .lane) (r .full)))
   start-enough apart (TookFree b) a (choice.Held n) s r e = cc
   start-enough apart (TookFree b) a (choice.Reused n) s r e = cc
@@ -208,7 +112,7 @@ module _ (h : Hub) (k : Key) where
   start-enough apart LimitReached a choice.NoRoom s r e = cc
   start-enough apart LimitReached a choice.LimitReached s r e = cc
   start-enough apart LimitReached a (choice.Held n) s r e =
-      absurd (s .no-repeat (n .0) (hit-used (holds k) (n .0) (r .found)) (holding k (slot (n .0)) (r .found .passes) (r .active)))
+      absurd (s .no-repeat (n .0) (hit-used t (holds k) (n .0) (r .found)) (holding k (slot (n .0)) (r .found .passes) (r .active)))
   start-enough apart LimitReached a (choice.Reused n) s r e = absurd (may-store t (k .lane) (r .may) (s .full))
   start-enough apart LimitReached a (choice.Took n) s r e = absurd (may-store t (k .lane) (r .may) (s .full))
   start-enough apart Nothing a c s r e = absurd s
@@ -232,26 +136,6 @@ module _ (h : Hub) (valid : ValidHub h) (k : Key) where
       go true q = true≢false q
       go false q = false≢true q
 
-  lowest-one : (b n : BufferNumber) → isFree (slotAt h (b .0)) ≡ true → isFree (slotAt h (n .0)) ≡ true
-      → ((i : ℕ) → i < b .0 → isFree (slotAt h i) ≡ false) → ((i : ℕ) → i < n .0 → isFree (slotAt h i) ≡ false) → b ≡ n
-  lowest-one b n e f v w = go (ltb (b .0) (n .0)) refl (ltb (n .0) (b .0)) refl
-    where
-      go : (x : Bool) → ltb (b .0) (n .0) ≡ x → (y : Bool) → ltb (n .0) (b .0) ≡ y → b ≡ n
-      go true p y q = absurd (true≢false (sym e ∙ w (b .0) (ltb-true (b .0) (n .0) p)))
-      go false p true q = absurd (true≢false (sym f ∙ v (n .0) (ltb-true (n .0) (b .0) q)))
-      go false p false q =
-          let x : n .0 ≤ b .0 = ltb-false (b .0) (n .0) p in
-          let y : b .0 ≤ n .0 = ltb-false (n .0) (b .0) q in
-          let z : b .0 ≡ n .0 = omega (arith, x, y) in
-          λ i. record { 0 = z i }
-
-  not-vacated : (i : ℕ) → ¬ (Vacated (slotAt h i)) → isFree (slotAt h i) ≡ false
-  not-vacated i u = go (isFree (slotAt h i)) refl
-    where
-      go : (x : Bool) → isFree (slotAt h i) ≡ x → x ≡ false
-      go true e = absurd (u (vacated k (slotAt h i) e))
-      go false e = refl
-
   pub start-only : (r : Reason) (c : Choice) → SaidOfStart r h k → Says h k c → TookLowest (h .translator .buffers) c → r ≡ choiceReason c
   start-only (HeldBy b) choice.NoRoom s r w = absurd (missed h k (holds k) b (s .in-use) (holding-holds k (slotAt h (b .0)) (s .so)) (r .says .none))
   start-only (HeldBy b) choice.LimitReached s r w =
@@ -266,14 +150,14 @@ module _ (h : Hub) (valid : ValidHub h) (k : Key) where
   start-only (Reused b) (choice.Reused n) s r w = ap Reused (one-holder b n (old-holds k (slotAt h (b .0)) (s .1 .so)) (r .says .found .passes))
   start-only (Reused b) (choice.Took n) s r w = absurd (missed h k (holds k) b (s .1 .in-use) (old-holds k (slotAt h (b .0)) (s .1 .so)) (r .says .none))
   start-only (TookFree b) choice.NoRoom s r w =
-      absurd (missed h k isFree b (s .free .in-use) (vacated-free k (slotAt h (b .0)) (s .free .so)) (r .says .free))
+      absurd (missed h k isFree b (s .free .in-use) (vacated-free (slotAt h (b .0)) (s .free .so)) (r .says .free))
   start-only (TookFree b) choice.LimitReached s r w = absurd (s .may (may-not-store (h .translator) (k .lane) (r .full)))
   start-only (TookFree b) (choice.Held n) s r w =
-      absurd (s .no-match (n .0) (hit-used h k (holds k) (n .0) (r .found)) (holds-with k (slotAt h (n .0)) (r .found .passes)))
+      absurd (s .no-match (n .0) (hit-used (h .translator) (holds k) (n .0) (r .found)) (holds-with k (slotAt h (n .0)) (r .found .passes)))
   start-only (TookFree b) (choice.Reused n) s r w =
-      absurd (s .no-match (n .0) (hit-used h k (holds k) (n .0) (r .says .found)) (holds-with k (slotAt h (n .0)) (r .says .found .passes)))
+      absurd (s .no-match (n .0) (hit-used (h .translator) (holds k) (n .0) (r .says .found)) (holds-with k (slotAt h (n .0)) (r .says .found .passes)))
   start-only (TookFree b) (choice.Took n) s r w =
-      ap TookFree (lowest-one b n (vacated-free k (slotAt h (b .0)) (s .free .so)) (r .says .free .passes) (λ i l. not-vacated i (s .lowest i l)) w)
+      ap TookFree (lowest-one (h .translator) isFree b n (vacated-free (slotAt h (b .0)) (s .free .so)) (r .says .free .passes) (λ i l. fails isFree Vacated vacated (slotAt h i) (s .lowest i l)) w)
   start-only NoRoom choice.NoRoom s r w = refl
   start-only NoRoom choice.LimitReached s r w = absurd (s .0 (may-not-store (h .translator) (k .lane) (r .full)))
   start-only NoRoom (choice.Held n) s r w = absurd (no-holder h k s n (r .found))
@@ -282,7 +166,7 @@ module _ (h : Hub) (valid : ValidHub h) (k : Key) where
   start-only LimitReached choice.NoRoom s r w = absurd (may-store (h .translator) (k .lane) (r .may) (s .full))
   start-only LimitReached choice.LimitReached s r w = refl
   start-only LimitReached (choice.Held n) s r w =
-      absurd (s .no-repeat (n .0) (hit-used h k (holds k) (n .0) (r .found)) (holding k (slotAt h (n .0)) (r .found .passes) (r .active)))
+      absurd (s .no-repeat (n .0) (hit-used (h .translator) (holds k) (n .0) (r .found)) (holding k (slotAt h (n .0)) (r .found .passes) (r .active)))
   start-only LimitReached (choice.Reused n) s r w = absurd (may-store (h .translator) (k .lane) (r .may) (s .full))
   start-only LimitReached (choice.Took n) s r w = absurd (may-store (h .translator) (k .lane) (r .may) (s .full))
   start-only Nothing c s r w = absurd s
@@ -306,17 +190,10 @@ picked-only h valid k r s = start-only h valid k r (picked h k) s (picked-says h
 
 -- ---- a start-split that passes is answered by what was chosen
 
-by-answer : (t : Translator) (s : StartSplit) (l : List ℕ) (c : Choice) → startBy t s l c .answer ≡ Chosen c
-by-answer t s l choice.NoRoom = refl
-by-answer t s l choice.LimitReached = refl
-by-answer t s l (choice.Held n) = refl
-by-answer t s l (choice.Reused n) = refl
-by-answer t s l (choice.Took n) = refl
-
 pub start-chosen : (h : Hub) (z p t f g a e : ℕ) (l : List ℕ) → within h (Start z p t f g a e l) ≡ true
     → startSplit (h .translator) (splitFrom z p t f g a e) l .answer ≡ Chosen (picked h (keyOf (splitFrom z p t f g a e)))
-unfolding within startSplit
+unfolding within
 start-chosen h z p t f g a e l w =
     let s : StartSplit = splitFrom z p t f g a e in
     let fit : startFits s (length l) ≡ true = and-eq-true-iff (splitNamed z p t f g a e) (startFits s (length l)) .0 w .1 in
-    rw fit (by-answer (h .translator) s l (picked h (keyOf s)))
+    chosen-answer (h .translator) s l fit

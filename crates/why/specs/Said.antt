@@ -7,7 +7,7 @@ use mathlib.Core.Bool.{Bool, true, false, _&&_, _||_}
 use mathlib.Core.Option.{Option, none, some}
 use mathlib.Core.List.{List, [], _∷_, map}
 use lib.Dec.{eqb, leb}
-use lib.ListN.{length, take, getD}
+use lib.ListN.{length, getD}
 use Rattle.port.specs.declared.Changes.{Changes}
 use Rattle.port.specs.declared.ChangeBit.{ChangeBit}
 use Rattle.port.specs.Reaction.{noChanges}
@@ -15,10 +15,10 @@ use Rattle.port.specs.Status.{byteOf, hasChange}
 use Rattle.port.specs.Claims.{changeBit}
 use Rattle.buffer.specs.declared.Key.{Key}
 use Rattle.buffer.specs.declared.BufferNumber.{BufferNumber}
-use Rattle.buffer.specs.declared.Slot.{Slot}
-use Rattle.buffer.specs.declared.Slot.the-variants.{Empty, Pending, Ready, Old}
 use Rattle.buffer.specs.Key.{keyOf}
+use Rattle.buffer.specs.Words.{Holding, OldWith, Elsewhere, With, Vacated}
 use Rattle.translator.specs.Limit.{AtLimit}
+use Rattle.translator.specs.TwoSteps.{InUse, Buffered}
 use Rattle.numbers.specs.Split.{splitFrom}
 use Rattle.request.specs.declared.Kind.{Kind}
 use Rattle.request.specs.declared.Kind.the-variants as kind
@@ -34,77 +34,31 @@ use Rattle.why.specs.declared.PortChanges.{PortChanges}
 use Rattle.why.specs.declared.Reason.{Reason}
 use Rattle.why.specs.declared.Reason.the-variants.{Nothing, Number, HeldBy, Reused, TookFree, LimitReached, NoRoom, Changed, Wrong}
 
--- ---- one buffer and a key
-
--- pending or ready, with the key k
-abbrev pub Holding : Key → Slot → Type 0
-Holding k Empty = ⊥
-Holding k (Pending s p) = keyOf s ≡ k
-Holding k (Ready s r) = keyOf s ≡ k
-Holding k (Old s r) = ⊥
-
--- old, with the key k
-abbrev pub OldWith : Key → Slot → Type 0
-OldWith k Empty = ⊥
-OldWith k (Pending s p) = ⊥
-OldWith k (Ready s r) = ⊥
-OldWith k (Old s r) = keyOf s ≡ k
-
--- pending or ready under another key
-abbrev pub Elsewhere : Key → Slot → Type 0
-Elsewhere k Empty = ⊥
-Elsewhere k (Pending s p) = ¬ (keyOf s ≡ k)
-Elsewhere k (Ready s r) = ¬ (keyOf s ≡ k)
-Elsewhere k (Old s r) = ⊥
-
--- all but empty hold a key
-abbrev pub With : Key → Slot → Type 0
-With k Empty = ⊥
-With k (Pending s p) = keyOf s ≡ k
-With k (Ready s r) = keyOf s ≡ k
-With k (Old s r) = keyOf s ≡ k
-
--- empty or old
-abbrev pub Vacated : Slot → Type 0
-Vacated Empty = Unit {0}
-Vacated (Pending s p) = ⊥
-Vacated (Ready s r) = ⊥
-Vacated (Old s r) = Unit {0}
-
 -- ---- a start-split with the key k
-
--- buffer i is one of the hub's B
-abbrev pub InUse : Hub → ℕ → Type 0
-InUse h i = i < length (take (h .translator .count) (h .translator .buffers))
-
--- buffer b is one of them, and so
-pub record Buffered (P : Slot → Type 0) (h : Hub) (b : BufferNumber) : Type 0 where
-  pub in-use : InUse h (b .0)
-  pub so : P (slotAt h (b .0))
 
 -- the lane is at its limit, and no buffer is pending or ready with the key
 pub record Limited (h : Hub) (k : Key) : Type 0 where
   pub full : AtLimit (k .lane) (h .translator)
-  pub no-repeat : (i : ℕ) → InUse h i → ¬ (Holding k (slotAt h i))
+  pub no-repeat : (i : ℕ) → InUse (h .translator) i → ¬ (Holding k (slotAt h i))
 
 -- the lane may store one more; no key match; b is the lowest-numbered empty or old one
 pub record Taken (h : Hub) (k : Key) (b : BufferNumber) : Type 0 where
   pub may : ¬ (AtLimit (k .lane) (h .translator))
-  pub free : Buffered Vacated h b
+  pub free : Buffered Vacated (h .translator) b
   pub lowest : (i : ℕ) → i < b .0 → ¬ (Vacated (slotAt h i))
-  pub no-match : (i : ℕ) → InUse h i → ¬ (With k (slotAt h i))
+  pub no-match : (i : ℕ) → InUse (h .translator) i → ¬ (With k (slotAt h i))
 
 abbrev pub SaidOfStart : Reason → Hub → Key → Type 0
 -- held already by buffer b
-SaidOfStart (HeldBy b) h k = Buffered (Holding k) h b
+SaidOfStart (HeldBy b) h k = Buffered (Holding k) (h .translator) b
 -- reused buffer b, the own old one
-SaidOfStart (Reused b) h k = (¬ (AtLimit (k .lane) (h .translator))) × Buffered (OldWith k) h b
+SaidOfStart (Reused b) h k = (¬ (AtLimit (k .lane) (h .translator))) × Buffered (OldWith k) (h .translator) b
 -- took free buffer b
 SaidOfStart (TookFree b) h k = Taken h k b
 -- the lane's limit, named before no room
 SaidOfStart LimitReached h k = Limited h k
 -- no room because every buffer is pending or ready under another key
-SaidOfStart NoRoom h k = (¬ (AtLimit (k .lane) (h .translator))) × ((i : ℕ) → InUse h i → Elsewhere k (slotAt h i))
+SaidOfStart NoRoom h k = (¬ (AtLimit (k .lane) (h .translator))) × ((i : ℕ) → InUse (h .translator) i → Elsewhere k (slotAt h i))
 SaidOfStart Nothing h k = ⊥
 SaidOfStart (Number n) h k = ⊥
 SaidOfStart (Changed c) h k = ⊥

@@ -36,6 +36,7 @@ pub struct Coverage {
     requests: Table,
     lanes: Table,
     choices: Table,
+    searches: Table,
     crowded: Table,
     situations: Table,
     explained: Explained,
@@ -261,6 +262,15 @@ const KEY_CALLS: [[&str; 2]; 7] = [
 /// is free, none and none free, waiting to be launched, running, ready, old.
 const KEY_STATES: [&str; 7] = ["other's", "none", "full", "waiting", "running", "ready", "old"];
 
+/// The buffer that a start-split finds, and another that is free: below one
+/// with its key, above one that it takes.
+const SEARCHES: [[&str; 2]; 4] = [
+    ["held, a lower one empty", "held, a lower one old"],
+    ["reused, a lower one empty", "reused, a lower one old"],
+    ["took empty, a higher one empty", "took empty, a higher one old"],
+    ["took old, a higher one empty", "took old, a higher one old"],
+];
+
 /// A buffer with a result, by its status and PID.  Sessions reach the results
 /// that suit the PID; areas hold the others too.
 const FINISHED: [[&str; 3]; 2] =
@@ -360,6 +370,12 @@ impl Coverage {
             ),
             lanes: lane_table(),
             choices: choice_table(),
+            searches: Table::new(
+                "Start-splits: what the search passes over",
+                SEARCHES.into_iter().flatten(),
+                BUFFER_COUNTS,
+            )
+            .showing_visits(),
             crowded: Table::new("Crowded areas", lanes::LANES, BUFFER_COUNTS).showing_visits(),
             situations: Table::new("Situations", situation_rows, ["visits"]).showing_visits(),
             explained: Explained::new(),
@@ -395,6 +411,9 @@ impl Coverage {
             if matches!(step.call, Call::StartSplit { .. }) {
                 let row = lanes::start_split(&hub.translator, key.lane);
                 self.choices.visit(row, lanes::choice(&hub.translator, key), number);
+                for row in searches(&hub.translator.buffers, step.reason) {
+                    self.searches.count(row, hub.translator.buffers.len() - 2, number);
+                }
             }
         }
         if let Some((row, lane)) = lanes::lane_call(step) {
@@ -481,6 +500,7 @@ impl Coverage {
             &self.requests,
             &self.lanes,
             &self.choices,
+            &self.searches,
             &self.crowded,
             &self.situations,
         ];
@@ -663,6 +683,21 @@ fn key_call(step: &Step) -> Option<(&'static str, Key)> {
         },
     };
     Some((KEY_CALLS[row][key.lane as usize], key))
+}
+
+/// The places in `SEARCHES` of what a start-split with this reason met.
+fn searches(buffers: &[Buffer], reason: &Reason) -> impl Iterator<Item = usize> {
+    let is_empty = |buffer: &Buffer| matches!(buffer, Buffer::Empty);
+    let is_old = |buffer: &Buffer| matches!(buffer, Buffer::Old(..));
+    let (first, others) = match *reason {
+        Reason::Held(number) => (0, &buffers[..number]),
+        Reason::Reused(number) => (2, &buffers[..number]),
+        Reason::TookFree(number) if is_empty(&buffers[number]) => (4, &buffers[number + 1..]),
+        Reason::TookFree(number) => (6, &buffers[number + 1..]),
+        _ => (0, &buffers[..0]),
+    };
+    let marks = [(first, others.iter().any(is_empty)), (first + 1, others.iter().any(is_old))];
+    marks.into_iter().filter(|(_, met)| *met).map(|(row, _)| row)
 }
 
 /// Status and PID of the buffer that a complete-split is for, and its result.

@@ -25,18 +25,18 @@ const REFUSED: RawAnswer = RawAnswer {
     toggle: 0,
 };
 
-fn read(lent: &Lent) -> Option<Hub> {
+pub fn read(lent: &Lent) -> Option<Hub> {
     form::read(lent.area.bytes())
 }
 
 /// The place of the buffer in the area.
-fn row(hub: &Hub, number: usize) -> Range<usize> {
+pub fn row(hub: &Hub, number: usize) -> Range<usize> {
     let start = form::length(hub.ports.len(), number);
     start..start + form::BUFFER
 }
 
 /// The hub before a start-split that the translator answered.
-fn answered_start(call: &Call, before: &Lent, answer: RawAnswer) -> Option<(Hub, Start)> {
+pub fn answered_start(call: &Call, before: &Lent, answer: RawAnswer) -> Option<(Hub, Start)> {
     match call {
         Call::StartSplit { numbers, .. } if matches!(answer.number, answer::DONE | answer::NAK) => {
             Some((read(before)?, numbers.understand()?))
@@ -137,6 +137,14 @@ pub fn repeat_without_lane(call: &Call, lent: &mut Lent) -> RawAnswer {
     answer
 }
 
+/// What the call stored in one free buffer, moved to another.
+pub fn moved(hub: &Hub, before: &Lent, lent: &mut Lent, from: usize, to: usize) {
+    let new = lent.area.bytes()[row(hub, from)].to_vec();
+    let old = before.area.bytes()[row(hub, from)].to_vec();
+    lent.area.bytes_mut()[row(hub, from)].copy_from_slice(&old);
+    lent.area.bytes_mut()[row(hub, to)].copy_from_slice(&new);
+}
+
 /// The other lane's old buffer is reused before a lower one.
 pub fn reuse_without_lane(call: &Call, lent: &mut Lent) -> RawAnswer {
     let before = lent.clone();
@@ -147,10 +155,7 @@ pub fn reuse_without_lane(call: &Call, lent: &mut Lent) -> RawAnswer {
     let own = hub.translator.find(start.key());
     if let (Some(stored), Some(twin), None) = (stored, twin, own) {
         if hub.translator.buffers[twin].is_free() {
-            let new = lent.area.bytes()[row(&hub, stored)].to_vec();
-            let old = before.area.bytes()[row(&hub, stored)].to_vec();
-            lent.area.bytes_mut()[row(&hub, stored)].copy_from_slice(&old);
-            lent.area.bytes_mut()[row(&hub, twin)].copy_from_slice(&new);
+            moved(&hub, &before, lent, stored, twin);
         }
     }
     answer

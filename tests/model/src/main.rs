@@ -40,6 +40,7 @@ mod recordings;
 mod replay;
 mod replay_mistakes;
 mod request;
+mod search_mistakes;
 mod situations;
 mod spoil;
 mod spoiled;

@@ -5,6 +5,7 @@ use crate::form;
 use crate::hub::Call;
 use crate::lane_mistakes as lanes;
 use crate::library::{Lent, Library, Linked, RawAnswer};
+use crate::search_mistakes as search;
 use crate::translator::Buffer;
 
 /// Makes the call on the linked library, with the mistake.
@@ -62,6 +63,13 @@ const MISTAKES: &[(&str, Mistaken)] = &[
     ("area with a key in both lanes refused", Mistaken(lanes::twins_refused)),
     ("a flag behind the lane ignored", Mistaken(lanes::flag_ignored)),
     ("lane of an empty buffer ignored", Mistaken(lanes::empty_lane_ignored)),
+    ("highest free buffer taken", Mistaken(search::highest_taken)),
+    ("buffer 0 not looked at", Mistaken(search::first_passed_over)),
+    ("search ends at the first free buffer", Mistaken(search::ends_at_free)),
+    ("repeat behind a free buffer not seen", Mistaken(search::repeat_unseen)),
+    ("own old buffer not preferred", Mistaken(search::own_old_not_preferred)),
+    ("empty buffer preferred to a lower old one", Mistaken(search::empty_preferred)),
+    ("last buffer not looked at", Mistaken(search::last_passed_over)),
 ];
 
 pub fn all() -> impl Iterator<Item = (&'static str, &'static dyn Library)> {

@@ -5,7 +5,7 @@ use native.Mathlib.Omega.{arith}
 use lib.ListN.{take, length}
 use Rattle.translator.specs.Slots.{bare}
 use Rattle.translator.specs.Order.{sooner, earliest}
-use Rattle.translator.proofs.Search.{Ahead, onward, ended, seeking}
+use Rattle.translator.proofs.Passes.{Ahead, onward, ended, seeking}
 use Rattle.translator.proofs.earliest_of.Statement.{statement}
 use Rattle.translator.proofs.earliest_of.Tie as tie
 

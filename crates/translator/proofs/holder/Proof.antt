@@ -7,7 +7,7 @@ use Rattle.buffer.specs.Buffer.{holds}
 use Rattle.translator.specs.declared.Found.the-variants.{Nowhere}
 use Rattle.translator.specs.Search.{find}
 use Rattle.translator.specs.Slots.{bare}
-use Rattle.translator.proofs.Search.{Ahead, ended, finding, finding-from, not-here, found-here}
+use Rattle.translator.proofs.Passes.{Ahead, ended, finding, finding-from, not-here, found-here}
 use Rattle.translator.proofs.holder.Statement.{statement}
 use Rattle.translator.proofs.holder.Tie as tie
 
