@@ -1,13 +1,54 @@
--- The words of one buffer and the tests, slot by slot. Assumes nothing.
-use mathlib.Core.Path.{_≡_, refl, sym, _∙_}
+-- The words of one buffer, among themselves and beside the tests, slot by slot. Assumes nothing.
+use mathlib.Core.Path.{_≡_, refl}
 use mathlib.Core.Bool.{true, false, true≢false, false≢true}
 use Rattle.buffer.specs.declared.Key.{Key}
 use Rattle.buffer.specs.declared.Slot.{Slot}
 use Rattle.buffer.specs.declared.Slot.the-variants.{Empty, Pending, Ready, Old}
-use Rattle.buffer.specs.Key.{keyOf, sameKey}
+use Rattle.buffer.specs.Key.{keyOf}
 use Rattle.buffer.specs.Buffer.{isActive, isFree, holds}
 use Rattle.buffer.specs.Words.{Holding, OldWith, Elsewhere, With, Vacated}
-use Rattle.buffer.proofs.Keys.{same-true, same-eq, same-ne}
+use Rattle.buffer.proofs.Keys.{same-true, same-eq}
+
+-- ---- words
+
+module _ (k : Key) where
+  pub holding-with : (s : Slot) → Holding k s → With k s
+  holding-with Empty w = w
+  holding-with (Pending s p) w = w
+  holding-with (Ready s r) w = w
+  holding-with (Old s r) w = absurd w
+
+  pub old-with : (s : Slot) → OldWith k s → With k s
+  old-with Empty w = w
+  old-with (Pending s p) w = absurd w
+  old-with (Ready s r) w = absurd w
+  old-with (Old s r) w = w
+
+  pub not-both : (s : Slot) → Holding k s → OldWith k s → ⊥
+  not-both Empty v w = v
+  not-both (Pending s p) v w = w
+  not-both (Ready s r) v w = w
+  not-both (Old s r) v w = v
+
+  pub elsewhere : (s : Slot) → ¬ (With k s) → ¬ (Vacated s) → Elsewhere k s
+  elsewhere Empty u v = v tt
+  elsewhere (Pending s p) u v = u
+  elsewhere (Ready s r) u v = u
+  elsewhere (Old s r) u v = v tt
+
+  pub elsewhere-without : (s : Slot) → Elsewhere k s → ¬ (With k s)
+  elsewhere-without Empty w = λ v. v
+  elsewhere-without (Pending s p) w = w
+  elsewhere-without (Ready s r) w = w
+  elsewhere-without (Old s r) w = absurd w
+
+  pub elsewhere-taken : (s : Slot) → Elsewhere k s → ¬ (Vacated s)
+  elsewhere-taken Empty w = absurd w
+  elsewhere-taken (Pending s p) w = λ v. v
+  elsewhere-taken (Ready s r) w = λ v. v
+  elsewhere-taken (Old s r) w = absurd w
+
+-- ---- words and tests
 
 module _ (k : Key) where
   pub holding : (s : Slot) → holds k s ≡ true → isActive s ≡ true → Holding k s
@@ -16,35 +57,11 @@ module _ (k : Key) where
   holding (Ready s r) e f = same-true (keyOf s) k e
   holding (Old s r) e f = false≢true f
 
-  pub holding-holds : (s : Slot) → Holding k s → holds k s ≡ true
-  holding-holds Empty w = absurd w
-  holding-holds (Pending s p) w = same-eq (keyOf s) k w
-  holding-holds (Ready s r) w = same-eq (keyOf s) k w
-  holding-holds (Old s r) w = absurd w
-
-  pub holding-active : (s : Slot) → Holding k s → isActive s ≡ true
-  holding-active Empty w = absurd w
-  holding-active (Pending s p) w = refl
-  holding-active (Ready s r) w = refl
-  holding-active (Old s r) w = absurd w
-
   pub old : (s : Slot) → holds k s ≡ true → isActive s ≡ false → OldWith k s
   old Empty e f = false≢true e
   old (Pending s p) e f = true≢false f
   old (Ready s r) e f = true≢false f
   old (Old s r) e f = same-true (keyOf s) k e
-
-  pub old-holds : (s : Slot) → OldWith k s → holds k s ≡ true
-  old-holds Empty w = absurd w
-  old-holds (Pending s p) w = absurd w
-  old-holds (Ready s r) w = absurd w
-  old-holds (Old s r) w = same-eq (keyOf s) k w
-
-  pub old-idle : (s : Slot) → OldWith k s → isActive s ≡ false
-  old-idle Empty w = absurd w
-  old-idle (Pending s p) w = absurd w
-  old-idle (Ready s r) w = absurd w
-  old-idle (Old s r) w = refl
 
   pub with-holds : (s : Slot) → With k s → holds k s ≡ true
   with-holds Empty w = absurd w
@@ -57,27 +74,6 @@ module _ (k : Key) where
   holds-with (Pending s p) e = same-true (keyOf s) k e
   holds-with (Ready s r) e = same-true (keyOf s) k e
   holds-with (Old s r) e = same-true (keyOf s) k e
-
-  unequal : (a : Key) → sameKey a k ≡ false → ¬ (a ≡ k)
-  unequal a e f = true≢false (sym (same-eq a k f) ∙ e)
-
-  pub elsewhere : (s : Slot) → holds k s ≡ false → isFree s ≡ false → Elsewhere k s
-  elsewhere Empty e f = true≢false f
-  elsewhere (Pending s p) e f = unequal (keyOf s) e
-  elsewhere (Ready s r) e f = unequal (keyOf s) e
-  elsewhere (Old s r) e f = true≢false f
-
-  pub elsewhere-unheld : (s : Slot) → Elsewhere k s → holds k s ≡ false
-  elsewhere-unheld Empty w = absurd w
-  elsewhere-unheld (Pending s p) w = same-ne (keyOf s) k w
-  elsewhere-unheld (Ready s r) w = same-ne (keyOf s) k w
-  elsewhere-unheld (Old s r) w = absurd w
-
-  pub elsewhere-busy : (s : Slot) → Elsewhere k s → isFree s ≡ false
-  elsewhere-busy Empty w = absurd w
-  elsewhere-busy (Pending s p) w = refl
-  elsewhere-busy (Ready s r) w = refl
-  elsewhere-busy (Old s r) w = absurd w
 
 pub vacated : (s : Slot) → isFree s ≡ true → Vacated s
 vacated Empty e = tt

@@ -114,42 +114,6 @@ find-lowest f (suc m) (b ∷ bs) = go (f (b .slot)) refl (find f (take m bs)) (f
         by zero l = e
         by (suc i) l = s i (le-of-suc-le-suc l)
 
--- a free buffer that is taken is the lowest
-abbrev pub TookLowest : List Buffer → Choice → Type 0
-TookLowest bs NoRoom = Unit {0}
-TookLowest bs LimitReached = Unit {0}
-TookLowest bs (Held n) = Unit {0}
-TookLowest bs (Reused n) = Unit {0}
-TookLowest bs (Took n) = (i : ℕ) → i < n .0 → isFree (at bs i .slot) ≡ false
-
-chosen-lowest : (k : Key) (m : ℕ) (bs : List Buffer) → TookLowest bs (chosen k (take m bs))
-unfolding chosen
-chosen-lowest k m bs = go (find (holds k) (take m bs))
-  where
-    free : (f : Found) → LowestSays isFree bs f → TookLowest bs (chooseFree f)
-    free Nowhere s = tt
-    free (At n) s = s
-
-    held : (n : BufferNumber) (x : Bool) → TookLowest bs (cond x (Held n) (Reused n))
-    held n true = tt
-    held n false = tt
-
-    go : (f : Found) → TookLowest bs (chooseHeld (take m bs) f)
-    go Nowhere = free (find isFree (take m bs)) (find-lowest isFree m bs)
-    go (At n) = held n (isActive (at (take m bs) (n .0) .slot))
-
-pub permitted-lowest : (b : ℕ) (k : Key) (m : ℕ) (bs : List Buffer) → TookLowest bs (permitted b k (take m bs))
-unfolding permitted
-permitted-lowest b k m bs = go (mayStore b (heldBy (k .lane) (take m bs))) (chosen k (take m bs)) (chosen-lowest k m bs)
-  where
-    go : (x : Bool) (c : Choice) → TookLowest bs c → TookLowest bs (limited x c)
-    go true c w = w
-    go false NoRoom w = tt
-    go false LimitReached w = tt
-    go false (Held n) w = tt
-    go false (Reused n) w = tt
-    go false (Took n) w = tt
-
 -- ---- the limit
 
 pub may-store : (t : Translator) (z : Lane) → mayStore (t .count) (heldBy z (take (t .count) (t .buffers))) ≡ true → ¬ (AtLimit z t)

@@ -5,6 +5,7 @@ use mathlib.Core.List.{List, [], _∷_}
 use native.Mathlib.Omega.{arith}
 use lib.ListN.{length}
 use Rattle.buffer.specs.declared.Key.{Key}
+use Rattle.buffer.specs.declared.BufferNumber.{BufferNumber}
 use Rattle.buffer.specs.declared.DeviceResult.the-variants.{Data0}
 use Rattle.buffer.specs.declared.Slot.{Slot}
 use Rattle.buffer.specs.declared.Slot.the-variants.{Empty, Pending, Old}
@@ -23,7 +24,7 @@ use Rattle.translator.specs.Search.{find, chosen, pass}
 use Rattle.translator.specs.Order.{tally}
 use Rattle.translator.specs.Limit.{permitted}
 use Rattle.translator.specs.StartSplit.{startSplit}
-use Rattle.translator.specs.OnePass.{look, OnePass}
+use Rattle.translator.specs.OnePass.{past, look, OnePass}
 use Rattle.translator.specs.SearchMistakes.{lookBy, highestFree, stopsAtFree, ownOldUnseen, numberLost, firstSkipped, uncounted, oldCounted, SearchMistakesShutOut}
 use Rattle.translator.specs.SearchCases.{own, second, across, b0, b1}
 use Rattle.translator.proofs.OnePass.{one-pass-claim}
@@ -52,6 +53,10 @@ settledTold (NoneYet h) = 10
 settledTold (LowestFree n h) = 11
 settledTold (OwnOld n h) = 12
 settledTold (Repeat n) = n .0
+
+own-look : (c : Carried) (n : BufferNumber) (s : Slot) (k : Key) → lookBy past c n s k ≡ look c n s k
+unfolding look
+own-look c n s k = refl
 
 -- buffer 1 is taken, where buffer 0 is empty
 highest-free : ¬ (OnePass (lookBy highestFree))
@@ -103,6 +108,7 @@ number-lost p =
 pub search-mistakes : SearchMistakesShutOut
 search-mistakes =
     record {
+      own = own-look;
       highest-free = highest-free;
       stops-at-free = stops-at-free;
       own-old-unseen = own-old-unseen;

@@ -1,6 +1,9 @@
 -- Steps of the search with one mistake each. A reader must believe: each is `look` but for what its comment says; `OnePass` shuts it out.
+use mathlib.Core.Path.{_≡_}
 use mathlib.Core.Bool.{cond}
 use lib.Dec.{eqb}
+use Rattle.buffer.specs.declared.Key.{Key}
+use Rattle.buffer.specs.declared.Slot.{Slot}
 use Rattle.buffer.specs.declared.BufferNumber.{BufferNumber}
 use Rattle.buffer.specs.declared.Standing.{Standing}
 use Rattle.buffer.specs.declared.Standing.the-variants.{Busy, Free, Holds, Reusable}
@@ -61,6 +64,8 @@ abbrev pub oldCounted : Looking
 oldCounted c n s k = counted (bit (inLane (k .lane) s)) (past c n (standing k s))
 
 pub record SearchMistakesShutOut : Type 0 where
+  -- (with the way past a buffer that is right, the step is `look`)
+  pub own : (c : Carried) (n : BufferNumber) (s : Slot) (k : Key) → lookBy past c n s k ≡ look c n s k
   pub highest-free : ¬ (OnePass (lookBy highestFree))
   pub stops-at-free : ¬ (OnePass (lookBy stopsAtFree))
   pub own-old-unseen : ¬ (OnePass (lookBy ownOldUnseen))

@@ -31,7 +31,7 @@ use Rattle.why.specs.Said.{bitmapBy, SaidOfPoll, SaidOfRequest, NoReason
 use Rattle.why.specs.Why.{numbered, choiceReason, startReason, changesByPort, pollReason, requestReason, ruleReason, whyOf}
 use Rattle.why.specs.Claims.{KeysApart, WhyClaims}
 use Rattle.why.proofs.Passing.{number-due, due-answered, due-number, unnumbered-passes, passes-unnumbered, ByRule, by-rule}
-use Rattle.why.proofs.Starts.{start-enough, picked, picked-says, picked-true, picked-only, start-chosen}
+use Rattle.why.proofs.Starts.{picked, picked-true, picked-only, picked-enough, start-chosen}
 use Rattle.why.proofs.Stored.{why-stored}
 use Rattle.why.proofs.Requests.{request-true, request-only, wrong-enough, right-served}
 use Rattle.why.proofs.Polls.{poll-true, poll-only, poll-enough, poll-nothing}
@@ -106,7 +106,7 @@ module _ (h : Hub) (a : Answer) where
       let k = keyOf (splitFrom v q t f g b n) in
       ap (λ (o : Outcome). o .answer) (passed h (Start v q t f g b n l) x refl z refl)
       ∙ ap (λ (s : StartAnswer). plainAnswer (startNumber s)) (start-chosen h v q t f g b n l x)
-      ∙ start-enough h k (apart k) r a (picked h k) w (picked-says h k) e
+      ∙ picked-enough h k (apart k) r a w e
   enough r (Complete v x y d room) apart e p w = absurd (none-for r a w e)
   enough r (Launch room) apart e p w = absurd (none-for r a w e)
   enough r (Deliver x l) apart e p w = absurd (none-for r a w e)
@@ -121,7 +121,7 @@ module _ (h : Hub) (valid : ValidHub h) where
   unfolding ruleReason served
   rule-true (Control z s room) b = request-true h s
   rule-true (Poll z room) b = rw (b .rule) (poll-true h valid)
-  rule-true (Start z p t f g a e l) b = rw (start-chosen h z p t f g a e l (b .fits)) (picked-true h valid (keyOf (splitFrom z p t f g a e)))
+  rule-true (Start z p t f g a e l) b = rw (start-chosen h z p t f g a e l (b .fits)) (picked-true h (keyOf (splitFrom z p t f g a e)) (valid .translator .keys (keyOf (splitFrom z p t f g a e))))
   rule-true (Complete z a e d room) b = tt
   rule-true (Launch room) b = tt
   rule-true (Deliver r l) b = tt
@@ -133,7 +133,7 @@ module _ (h : Hub) (valid : ValidHub h) where
   unfolding ruleReason served
   rule-only r (Control z s room) b w = request-only h s r w
   rule-only r (Poll z room) b w = rw (b .rule) (poll-only h valid r w)
-  rule-only r (Start z p t f g a e l) b w = rw (start-chosen h z p t f g a e l (b .fits)) (picked-only h valid (keyOf (splitFrom z p t f g a e)) r w)
+  rule-only r (Start z p t f g a e l) b w = rw (start-chosen h z p t f g a e l (b .fits)) (picked-only h (keyOf (splitFrom z p t f g a e)) (valid .translator .keys (keyOf (splitFrom z p t f g a e))) r w)
   rule-only r (Complete z a e d room) b w = no-reason r w
   rule-only r (Launch room) b w = no-reason r w
   rule-only r (Deliver x l) b w = no-reason r w
