@@ -117,11 +117,11 @@ module _ (t : Translator) where
     -- what is read off under the limit
     by-limit : (h : ℕ) → h ≡ heldBy (k .lane) inUse → (c : Choice) → (¬ (AtLimit (k .lane) t) → TwoSteps t k c)
         → ((n : BufferNumber) → Lowest (With k) t n → ¬ (Buffered (Holding k) t n)) → TwoSteps t k (cond (mayStore (t .count) h) c LimitReached)
-    by-limit h e c below unrepeated = go (mayStore (t .count) h) (ap (mayStore (t .count)) (sym e))
+    by-limit h e c below no-repeat = go (mayStore (t .count) h) (ap (mayStore (t .count)) (sym e))
       where
         go : (x : Bool) → may ≡ x → TwoSteps t k (cond x c LimitReached)
         go true m = below (may-store t (k .lane) m)
-        go false m = (may-not-store t (k .lane) m, unrepeated)
+        go false m = (may-not-store t (k .lane) m, no-repeat)
 
     -- the choice that is read off is so
     pub choice-so : (c : Carried) → Carries t k c → TwoSteps t k (choiceOf (t .count) c)

@@ -7,6 +7,7 @@ use mathlib.Core.List.{List, [], _∷_}
 use lib.Dec.{eqb}
 use lib.ListN.{replicate}
 use Rattle.payload.specs.Payload.{content}
+use Rattle.buffer.specs.declared.Lane.{Lane}
 use Rattle.buffer.specs.declared.Lane.the-variants.{Zero}
 use Rattle.buffer.specs.declared.Direction.the-variants as direction
 use Rattle.buffer.specs.declared.Key.{Key}
@@ -49,8 +50,11 @@ abbrev pub plain : ℕ → Said
 plain n = record { number = n; pid = 0; address = 0; endpoint = 0; bytes = [] }
 
 -- a full-speed bulk start-split
+abbrev pub splitIn : Lane → Pid → ℕ → ℕ → StartSplit
+splitIn z p a e = record { lane = z; pid = p; transfer = Bulk; lowspeed = false; toggle = false; address = record { 0 = a }; endpoint = e }
+
 abbrev pub split : Pid → ℕ → ℕ → StartSplit
-split p a e = record { lane = Zero; pid = p; transfer = Bulk; lowspeed = false; toggle = false; address = record { 0 = a }; endpoint = e }
+split p a e = splitIn Zero p a e
 
 abbrev pub inKey : ℕ → ℕ → Key
 inKey a e = keyWith Zero (record { 0 = a }) e direction.In

@@ -14,6 +14,6 @@ pub mod Answers
 pub mod Valid
 pub mod OnePass
 pub mod SearchMistakes
-pub mod SearchCases
 pub mod Claims
 pub mod Cases
+pub mod SearchCases

@@ -2,14 +2,10 @@
 -- device 5, endpoint 1; each row has its B buffers. A reader must believe: each row says what document 01 and C-18 say of its buffers.
 use Prim.Native.Nat.{ℕ, suc}
 use mathlib.Core.Path.{_≡_}
-use mathlib.Core.Bool.{false}
 use mathlib.Core.List.{List, [], _∷_, map}
 use lib.ListN.{length}
-use Rattle.buffer.specs.declared.Lane.{Lane}
 use Rattle.buffer.specs.declared.Lane.the-variants.{Zero, One}
-use Rattle.buffer.specs.declared.Pid.{Pid}
 use Rattle.buffer.specs.declared.Pid.the-variants as pid
-use Rattle.buffer.specs.declared.TransferType.the-variants.{Bulk}
 use Rattle.buffer.specs.declared.StartSplit.{StartSplit}
 use Rattle.buffer.specs.declared.DeviceResult.the-variants.{Ack, Data0}
 use Rattle.buffer.specs.declared.Slot.{Slot}
@@ -23,31 +19,28 @@ use Rattle.translator.specs.declared.Choice.the-variants.{NoRoom, LimitR
 use Rattle.translator.specs.Slots.{bare}
 use Rattle.translator.specs.Limit.{permitted}
 use Rattle.translator.specs.OnePass.{look, carriedBy, choiceOf}
-
--- a full-speed bulk start-split to endpoint 1
-abbrev pub splitOf : Lane → Pid → ℕ → StartSplit
-splitOf z p a = record { lane = z; pid = p; transfer = Bulk; lowspeed = false; toggle = false; address = record { 0 = a }; endpoint = 1 }
+use Rattle.translator.specs.Cases.{splitIn}
 
 -- the one that comes
 abbrev pub own : StartSplit
-own = splitOf Zero pid.In 5
+own = splitIn Zero pid.In 5 1
 
 -- others of its lane: two devices, and OUT of the same endpoint
 abbrev pub second : StartSplit
-second = splitOf Zero pid.In 6
+second = splitIn Zero pid.In 6 1
 
 abbrev pub third : StartSplit
-third = splitOf Zero pid.In 7
+third = splitIn Zero pid.In 7 1
 
 abbrev pub outward : StartSplit
-outward = splitOf Zero pid.Out 5
+outward = splitIn Zero pid.Out 5 1
 
 -- of the other lane: the same pipe, and another device
 abbrev pub across : StartSplit
-across = splitOf One pid.In 5
+across = splitIn One pid.In 5 1
 
 abbrev pub across2 : StartSplit
-across2 = splitOf One pid.In 6
+across2 = splitIn One pid.In 6 1
 
 abbrev pub b0 : BufferNumber
 b0 = record { 0 = 0 }

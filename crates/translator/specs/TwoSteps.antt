@@ -30,7 +30,7 @@ pub record Lowest (P : Slot → Type 0) (t : Translator) (n : BufferNumber) : Ty
 abbrev pub None : (Slot → Type 0) → Translator → Type 0
 None P t = (n : BufferNumber) → ¬ (Buffered P t n)
 
--- A start-split with the key k. Where a key were held twice, the lowest-numbered buffer with it is the one that is meant.
+-- A start-split with the key k. Where a key is held twice, the lowest-numbered buffer with it is meant.
 abbrev pub TwoSteps : Translator → Key → Choice → Type 0
 -- a buffer with its key that is pending or ready, ACK and nothing stored;
 TwoSteps t k (Held n) = Lowest (With k) t n × Buffered (Holding k) t n
