@@ -88,7 +88,8 @@ static FILE *answers_file;
 static uint8_t keep_block(void *file, const uint8_t *block)
 {
     return fwrite(block, GRIMHOLDI_BLOCK_LENGTH, 1, (FILE *)file) == 1
-           && fflush((FILE *)file) == 0 ? GRIMHOLDI_DONE : GRIMHOLDI_NAK;
+           && fflush((FILE *)file) == 0 ? GRIMHOLDI_ANSWER_DONE
+                                        : GRIMHOLDI_ANSWER_NAK;
 }
 
 static FILE *open_file(const char *name)
@@ -247,11 +248,11 @@ static void print_bytes(const uint8_t *bytes, size_t length)
 
 static void print_answer(grimholdi_answer answer)
 {
-    if (answer.number != GRIMHOLDI_DATA)
+    if (answer.number != GRIMHOLDI_ANSWER_DATA)
         printf(" %s", answer_names[answer.number]);
     if (answer.pid != 0)
         printf(" %s", result_names[answer.pid]);
-    if (answer.number == GRIMHOLDI_DATA)
+    if (answer.number == GRIMHOLDI_ANSWER_DATA)
         print_bytes(reply, answer.length);
 }
 
@@ -275,7 +276,8 @@ static void request(const computer *from, const char *name, uint8_t type,
            length);
     print_answer(answer);
     printf("  %s\n", name);
-    expect(answer.number == (length > 0 ? GRIMHOLDI_DATA : GRIMHOLDI_DONE)
+    expect(answer.number == (length > 0 ? GRIMHOLDI_ANSWER_DATA
+                                        : GRIMHOLDI_ANSWER_DONE)
            && answer.length == length, name);
 }
 
@@ -288,13 +290,13 @@ static void set_feature(const computer *from, uint16_t feature)
 static void line_event(uint32_t event, uint8_t port, const char *name)
 {
     printf("%4u E port %u %s\n", now, port, name);
-    expect(hub_line_event(event, port).number == GRIMHOLDI_DONE, name);
+    expect(hub_line_event(event, port).number == GRIMHOLDI_ANSWER_DONE, name);
 }
 
 static void tick(void)
 {
     now++;
-    expect(hub_tick().number == GRIMHOLDI_DONE, "tick");
+    expect(hub_tick().number == GRIMHOLDI_ANSWER_DONE, "tick");
 }
 
 static void start_split(const computer *from, uint8_t endpoint,
@@ -341,8 +343,8 @@ static void serve_changes(computer *of)
     grimholdi_answer answer = hub_poll(of->lane);
     uint8_t status, changes, bit;
 
-    if (answer.number != GRIMHOLDI_DATA) {
-        expect(answer.number == GRIMHOLDI_NAK, "poll");
+    if (answer.number != GRIMHOLDI_ANSWER_DATA) {
+        expect(answer.number == GRIMHOLDI_ANSWER_NAK, "poll");
         return;
     }
     if (!(reply[0] >> of->port & 1))
@@ -384,11 +386,11 @@ static uint8_t other_data(uint8_t data)
 /* The take and the buttons are all that a lane may hold of three buffers. */
 static void start_reading(const computer *of)
 {
-    start_split(of, TAKE, GRIMHOLDI_DONE, "");
+    start_split(of, TAKE, GRIMHOLDI_ANSWER_DONE, "");
     if (now == FIRST_READ && of == &computers[0]) {
-        start_split(of, BUTTONS, GRIMHOLDI_DONE, "");
+        start_split(of, BUTTONS, GRIMHOLDI_ANSWER_DONE, "");
         dump_area();
-        start_split(of, METER, GRIMHOLDI_NAK, "  the limit");
+        start_split(of, METER, GRIMHOLDI_ANSWER_NAK, "  the limit");
     }
 }
 
@@ -425,11 +427,12 @@ static void finish_reading(computer *of)
     grimholdi_answer answer = complete_split(of, TAKE);
 
     if (!of->plugged)
-        expect(answer.number == GRIMHOLDI_STALL, "result after ResetTT");
-    else if (answer.number == GRIMHOLDI_DATA)
+        expect(answer.number == GRIMHOLDI_ANSWER_STALL,
+               "result after ResetTT");
+    else if (answer.number == GRIMHOLDI_ANSWER_DATA)
         receive(of, answer);
     else
-        expect(answer.number == GRIMHOLDI_HANDSHAKE
+        expect(answer.number == GRIMHOLDI_ANSWER_HANDSHAKE
                && answer.pid == GRIMHOLDI_RESULT_NAK, "complete-split");
 }
 
@@ -443,7 +446,7 @@ static void deliver(const computer *to, uint8_t endpoint, uint8_t result,
     if (bytes != NULL)
         print_bytes(bytes, length);
     printf("\n");
-    expect(hub_deliver(result, bytes, length).number == GRIMHOLDI_DONE,
+    expect(hub_deliver(result, bytes, length).number == GRIMHOLDI_ANSWER_DONE,
            "deliver");
 }
 
@@ -481,8 +484,9 @@ static void run_low_side(void)
         grimholdi_answer launched = hub_launch();
         int i;
 
-        if (launched.number != GRIMHOLDI_DATA || launched.lane >= COMPUTERS) {
-            expect(launched.number == GRIMHOLDI_NAK, "launch");
+        if (launched.number != GRIMHOLDI_ANSWER_DATA
+            || launched.lane >= COMPUTERS) {
+            expect(launched.number == GRIMHOLDI_ANSWER_NAK, "launch");
             return;
         }
         print_key('L', launched.lane, launched.endpoint);
@@ -517,7 +521,8 @@ static void set_up(void)
 
     area_len = grimholdi_area_length(PORTS, BUFFERS);
     expect(grimholdi_new(area, area_len, PORTS, BUFFERS, POWER_GOOD, CURRENT,
-                         REMOVABLE).number == GRIMHOLDI_DONE, "new hub");
+                         REMOVABLE).number == GRIMHOLDI_ANSWER_DONE,
+           "new hub");
     make_computer(&computers[0], 0, 1);
     make_computer(&computers[1], 1, 2);
     request(&computers[0], "SetConfiguration",

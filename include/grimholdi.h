@@ -16,8 +16,8 @@
  *
  *   Each call but grimholdi_new tests the whole area first.  An area of the
  *   wrong length, or with bytes that are not the written form of a permitted
- *   hub, is refused with GRIMHOLDI_OUTSIDE.  What the calls themselves leave
- *   is always taken.
+ *   hub, is refused with GRIMHOLDI_ANSWER_OUTSIDE.  What the calls themselves
+ *   leave is always taken.
  *
  * The lanes
  *
@@ -42,21 +42,21 @@
  *   byte of the area but that port's four.  If the other calls are the same,
  *   every other port, the translator and the answers to those calls are as if
  *   the port had never been named.  Only a poll may differ: in that port's
- *   bit, and where no other bit is set it is GRIMHOLDI_DATA in place of
- *   GRIMHOLDI_NAK, or the other way round.  (Its reason, below, tells the
- *   change bits of every port.)
+ *   bit, and where no other bit is set it is GRIMHOLDI_ANSWER_DATA in place of
+ *   GRIMHOLDI_ANSWER_NAK, or the other way round.  (Its reason, below, tells
+ *   the change bits of every port.)
  *
  * The order of checks
  *
  *   Where several answers apply, the first of this list is given:
  *
- *     1. GRIMHOLDI_OUTSIDE    the area, a number or a length is outside the
- *                             rules; a lane above 1 is such a number
- *     2. GRIMHOLDI_NO_SPACE   the call takes reply space and reply_len is
- *                             below GRIMHOLDI_REPLY_LENGTH, even if the call
- *                             would write nothing
- *     3. GRIMHOLDI_SILENT     the hub is unconfigured
- *     4. GRIMHOLDI_NOT_NOW    not in this state
+ *     1. OUTSIDE    the area, a number or a length is outside the rules; a
+ *                   lane above 1 is such a number
+ *     2. NO_SPACE   the call takes reply space and reply_len is below
+ *                   GRIMHOLDI_REPLY_LENGTH, even if the call would write
+ *                   nothing
+ *     3. SILENT     the hub is unconfigured
+ *     4. NOT_NOW    not in this state
  *     5. the rest, as each call below says
  *
  *   Each call lists its answers in this order.  It gives no others.
@@ -64,10 +64,9 @@
  * What a call leaves
  *
  *   Answers 2 to 8 are refusals: the area and the reply space keep every byte.
- *   GRIMHOLDI_DATA writes the first `length` bytes of the reply space and
- *   keeps the rest.  GRIMHOLDI_DONE and GRIMHOLDI_HANDSHAKE write nothing but
- *   the area.  Polls and Get requests leave the area as it is.  Setup bytes
- *   and payloads are only read.
+ *   DATA writes the first `length` bytes of the reply space and keeps the
+ *   rest.  DONE and HANDSHAKE write nothing but the area.  Polls and Get
+ *   requests leave the area as it is.  Setup bytes and payloads are only read.
  *
  * Why a call is answered as it is
  *
@@ -112,6 +111,20 @@
 extern "C" {
 #endif
 
+/*
+ * The version of this header.  Within one MINOR number what was compiled for
+ * one PATCH runs with another; before 1.0 a new MINOR number may change names,
+ * structs and the area.
+ */
+
+#define GRIMHOLDI_VERSION_MAJOR     0
+#define GRIMHOLDI_VERSION_MINOR     5
+#define GRIMHOLDI_VERSION_PATCH     0
+#define GRIMHOLDI_VERSION           "0.5.0"
+#define GRIMHOLDI_VERSION_NUMBER    (GRIMHOLDI_VERSION_MAJOR * 10000 \
+                                     + GRIMHOLDI_VERSION_MINOR * 100 \
+                                     + GRIMHOLDI_VERSION_PATCH)
+
 /* Limits. */
 
 #define GRIMHOLDI_PORTS_MIN         1   /* ports are numbered from 1 */
@@ -133,18 +146,18 @@ extern "C" {
 #define GRIMHOLDI_RESET_TICKS       15  /* ticks that end a port reset */
 #define GRIMHOLDI_RESUME_TICKS      22  /* ticks that end a resume */
 
-/* Answers: the field `number`. */
+/* Answers: the field `number`.  DONE, DATA, .. below are short for these. */
 
-#define GRIMHOLDI_DONE              0   /* done (ACK) */
-#define GRIMHOLDI_DATA              1   /* `length` bytes in the reply space */
-#define GRIMHOLDI_STALL             2   /* STALL */
-#define GRIMHOLDI_NAK               3   /* nothing to give, or no buffer */
-#define GRIMHOLDI_NYET              4   /* NYET */
-#define GRIMHOLDI_SILENT            5   /* the hub is unconfigured */
-#define GRIMHOLDI_OUTSIDE           6   /* area, number or length refused */
-#define GRIMHOLDI_NO_SPACE          7   /* reply space under 64 bytes */
-#define GRIMHOLDI_NOT_NOW           8   /* not in this state */
-#define GRIMHOLDI_HANDSHAKE         9   /* the device's handshake, in `pid` */
+#define GRIMHOLDI_ANSWER_DONE       0  /* done (ACK) */
+#define GRIMHOLDI_ANSWER_DATA       1  /* `length` bytes in the reply space */
+#define GRIMHOLDI_ANSWER_STALL      2  /* STALL */
+#define GRIMHOLDI_ANSWER_NAK        3  /* nothing to give, or no buffer */
+#define GRIMHOLDI_ANSWER_NYET       4  /* NYET */
+#define GRIMHOLDI_ANSWER_SILENT     5  /* the hub is unconfigured */
+#define GRIMHOLDI_ANSWER_OUTSIDE    6  /* area, number or length refused */
+#define GRIMHOLDI_ANSWER_NO_SPACE   7  /* reply space under 64 bytes */
+#define GRIMHOLDI_ANSWER_NOT_NOW    8  /* not in this state */
+#define GRIMHOLDI_ANSWER_HANDSHAKE  9  /* the device's handshake, in `pid` */
 
 /* PIDs of start-splits and launched transactions. */
 
@@ -253,7 +266,7 @@ extern "C" {
 
 typedef struct {
     uint8_t number;    /* 0 to 9, see above */
-    uint8_t length;    /* GRIMHOLDI_DATA: bytes written to the reply space */
+    uint8_t length;    /* DATA: bytes written to the reply space */
     uint8_t pid;       /* complete-split: a result (not the failure);
                           launch: a PID */
     uint8_t transfer;  /* this and the following: launch only */
@@ -360,6 +373,12 @@ typedef struct {
     uint32_t emptied;   /* and start-splits emptied before that */
     uint32_t length;    /* bytes of the answers' space that were written */
 } grimholdi_replayed;
+
+/*
+ * The version of the library that is linked, as GRIMHOLDI_VERSION_NUMBER.  A
+ * firmware compares the two once.
+ */
+uint32_t grimholdi_version(void);
 
 /*
  * The length of the area of a hub with that many ports and buffers, or 0 where
@@ -469,7 +488,7 @@ grimholdi_reason grimholdi_why_control(const uint8_t *area, size_t area_len,
  * NAK       no port has a change bit set
  * DATA      one byte; bit p is 1 if port p has a change bit set, bit 0 is 0
  */
-grimholdi_answer grimholdi_poll(uint8_t *area, size_t area_len,
+grimholdi_answer grimholdi_poll(const uint8_t *area, size_t area_len,
                                 uint32_t lane,
                                 uint8_t *reply, size_t reply_len);
 

@@ -193,8 +193,8 @@ static inline size_t grimholdi_record_bus_reset(uint8_t *record,
 /*
  * A recorder: puts records into blocks and hands each finished block, of
  * GRIMHOLDI_BLOCK_LENGTH bytes, to a function of the firmware.  That function
- * answers GRIMHOLDI_DONE once the block is kept, and any other number if it
- * can't be.  The blocks that were kept, one behind the other, are the
+ * answers GRIMHOLDI_ANSWER_DONE once the block is kept, and any other number
+ * if it can't be.  The blocks that were kept, one behind the other, are the
  * recording.
  *
  * Once a call that could change the hub is missing, so are all later ones:
@@ -206,8 +206,8 @@ static inline size_t grimholdi_record_bus_reset(uint8_t *record,
  *
  * Only a call whose record fits no block is left out without a stop.  It has
  * 476 setup or payload bytes at least: the hub refuses it in every state with
- * GRIMHOLDI_OUTSIDE and changes nothing, so that the calls behind it are
- * answered as if it had not been made.
+ * GRIMHOLDI_ANSWER_OUTSIDE and changes nothing, so that the calls behind it
+ * are answered as if it had not been made.
  *
  * A recorder of zeros records nothing: a firmware that is not asked to record
  * needs no test of its own before grimholdi_recorder_add.  Two calls on one
@@ -252,13 +252,14 @@ static inline void grimholdi_recorder_miss(grimholdi_recorder *recorder,
 static inline void grimholdi_recorder_next(grimholdi_recorder *recorder)
 {
     if (grimholdi_block_finish(recorder->block, GRIMHOLDI_BLOCK_LENGTH)
-            != GRIMHOLDI_DONE
+            != GRIMHOLDI_ANSWER_DONE
         || recorder->keep(recorder->context, recorder->block)
-            != GRIMHOLDI_DONE) {
+            != GRIMHOLDI_ANSWER_DONE) {
         grimholdi_recorder_miss(recorder, recorder->records);
         recorder->number = 0;
     } else if (grimholdi_block_start(recorder->block, GRIMHOLDI_BLOCK_LENGTH,
-                                     recorder->number + 1) == GRIMHOLDI_DONE)
+                                     recorder->number + 1)
+               == GRIMHOLDI_ANSWER_DONE)
         recorder->number++;
     else
         recorder->number = 0;
@@ -289,23 +290,23 @@ static inline void grimholdi_recorder_add(grimholdi_recorder *recorder,
                                           const uint8_t *record,
                                           size_t record_len)
 {
-    uint8_t added = GRIMHOLDI_NAK;
+    uint8_t added = GRIMHOLDI_ANSWER_NAK;
 
     if (recorder->number != 0 && record_len != 0
         && record_len <= GRIMHOLDI_RECORD_SPACE) {
         added = grimholdi_block_add(recorder->block, GRIMHOLDI_BLOCK_LENGTH,
                                     record, record_len);
-        if (added == GRIMHOLDI_NAK) {
+        if (added == GRIMHOLDI_ANSWER_NAK) {
             grimholdi_recorder_next(recorder);
             if (recorder->number != 0)
                 added = grimholdi_block_add(recorder->block,
                                             GRIMHOLDI_BLOCK_LENGTH, record,
                                             record_len);
         }
-        if (added == GRIMHOLDI_OUTSIDE)
+        if (added == GRIMHOLDI_ANSWER_OUTSIDE)
             grimholdi_recorder_finish(recorder);
     }
-    if (added == GRIMHOLDI_DONE)
+    if (added == GRIMHOLDI_ANSWER_DONE)
         recorder->records++;
     else
         grimholdi_recorder_miss(recorder, 1);

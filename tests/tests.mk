@@ -33,7 +33,7 @@ SOAK_SEED ?= $(shell date +%s)
 
 TEST_CFLAGS := -std=c99 -O1 -g -Wall -Wextra -Werror -pedantic -Iinclude
 TEST_CXXFLAGS := -std=c++11 -O1 -g -Wall -Wextra -Werror -pedantic -Iinclude
-INCLUDED := include/grimholdi.h include/grimholdi_record.h
+INCLUDED := $(wildcard include/*.h)
 C_HEADERS := $(wildcard tests/c/*.h) $(INCLUDED)
 C_TESTS := $(patsubst tests/c/%.c,$(TARGET)/c/%,$(wildcard tests/c/test_*.c))
 CXX_TESTS := $(patsubst tests/c/%.cpp,$(TARGET)/c/%,$(wildcard tests/c/test_*.cpp))

@@ -49,7 +49,7 @@ static inline void new_hub(uint32_t ports, uint32_t buffers)
     area = allocate(area_len);
     reply = allocate(GRIMHOLDI_REPLY_LENGTH);
     CHECK(grimholdi_new(area, area_len, ports, buffers, 0x32, 0x64, 0).number
-          == GRIMHOLDI_DONE);
+          == GRIMHOLDI_ANSWER_DONE);
 }
 
 static inline void save(void)
@@ -121,7 +121,7 @@ static inline uint8_t set_configuration(uint16_t value)
 static inline void configured_hub(uint32_t ports, uint32_t buffers)
 {
     new_hub(ports, buffers);
-    CHECK(set_configuration(1) == GRIMHOLDI_DONE);
+    CHECK(set_configuration(1) == GRIMHOLDI_ANSWER_DONE);
 }
 
 static inline uint8_t set_feature_from(uint32_t lane, uint16_t feature,
@@ -193,7 +193,7 @@ static inline uint8_t event(uint32_t number, uint32_t port)
 static inline void ticks(int count)
 {
     while (count-- > 0)
-        CHECK(grimholdi_tick(area, area_len).number == GRIMHOLDI_DONE);
+        CHECK(grimholdi_tick(area, area_len).number == GRIMHOLDI_ANSWER_DONE);
 }
 
 static inline grimholdi_answer poll_from(uint32_t lane)
@@ -264,7 +264,7 @@ static inline grimholdi_answer complete(uint32_t address, uint32_t endpoint,
 static inline int gives(grimholdi_answer answer, const char *bytes,
                         uint8_t length)
 {
-    return answer.number == GRIMHOLDI_DATA && answer.length == length
+    return answer.number == GRIMHOLDI_ANSWER_DATA && answer.length == length
            && memcmp(reply, bytes, length) == 0;
 }
 
@@ -275,7 +275,7 @@ static inline int launches(uint32_t lane, uint32_t address)
 {
     grimholdi_answer answer = launch();
 
-    return answer.number == GRIMHOLDI_DATA && answer.lane == lane
+    return answer.number == GRIMHOLDI_ANSWER_DATA && answer.lane == lane
            && answer.address == address;
 }
 
@@ -297,9 +297,9 @@ static inline int has_text(uint32_t lane, uint32_t address,
 static inline void make_ready(uint32_t lane, uint32_t address,
                               const char *text)
 {
-    CHECK(start_in_from(lane, address, 1) == GRIMHOLDI_DONE);
+    CHECK(start_in_from(lane, address, 1) == GRIMHOLDI_ANSWER_DONE);
     CHECK(launches(lane, address));
-    CHECK(deliver_text(text) == GRIMHOLDI_DONE);
+    CHECK(deliver_text(text) == GRIMHOLDI_ANSWER_DONE);
 }
 
 static inline void make_old(uint32_t lane, uint32_t address,
@@ -327,7 +327,7 @@ static inline int status_is(uint16_t port, const char *bytes)
 static inline uint16_t port_changes(uint16_t port)
 {
     CHECK(request(GRIMHOLDI_TYPE_GET_PORT, GRIMHOLDI_REQUEST_GET_STATUS,
-                  0, port, 4).number == GRIMHOLDI_DATA);
+                  0, port, 4).number == GRIMHOLDI_ANSWER_DATA);
     return (uint16_t)(reply[2] | reply[3] << 8);
 }
 

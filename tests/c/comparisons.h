@@ -95,7 +95,7 @@ static inline int is_poll_answer(int side)
     const grimholdi_answer *answer = &histories[side].answer;
     grimholdi_answer due = {.number = answer->number};
 
-    due.length = answer->number == GRIMHOLDI_DATA;
+    due.length = answer->number == GRIMHOLDI_ANSWER_DATA;
     return same_fields(answer, &due);
 }
 
@@ -105,8 +105,9 @@ static inline int suits_nak(int side)
     uint8_t number = histories[side].answer.number;
 
     if (!picked_has_change(side))
-        return number == GRIMHOLDI_NAK;
-    return number == GRIMHOLDI_DATA && reply_of(side)[0] == 1u << picked;
+        return number == GRIMHOLDI_ANSWER_NAK;
+    return number == GRIMHOLDI_ANSWER_DATA
+           && reply_of(side)[0] == 1u << picked;
 }
 
 /* The picked port's bit differs if its having a change bit does; no other. */
@@ -124,9 +125,9 @@ static inline int polls_agree(void)
 
     if (!is_poll_answer(LEFT) || !is_poll_answer(RIGHT))
         return 0;
-    if (left == GRIMHOLDI_NAK || right == GRIMHOLDI_NAK)
+    if (left == GRIMHOLDI_ANSWER_NAK || right == GRIMHOLDI_ANSWER_NAK)
         return suits_nak(LEFT) && suits_nak(RIGHT);
-    return left == right && (left != GRIMHOLDI_DATA || bits_agree());
+    return left == right && (left != GRIMHOLDI_ANSWER_DATA || bits_agree());
 }
 
 /* Calls made and compared. */

@@ -19,7 +19,7 @@ static inline int is_done_event(const call *c, const grimholdi_answer *answer,
                                 uint32_t event)
 {
     return c->kind == LINE_EVENT && c->event == event
-           && answer->number == GRIMHOLDI_DONE;
+           && answer->number == GRIMHOLDI_ANSWER_DONE;
 }
 
 static inline int is_attach(const call *c, const grimholdi_answer *answer)
@@ -32,12 +32,12 @@ static inline int is_served(const call *c, const grimholdi_answer *answer,
                             uint8_t type, uint8_t code)
 {
     return c->kind == CONTROL && c->bytes[0] == type && c->bytes[1] == code
-           && answer->number <= GRIMHOLDI_DATA;
+           && answer->number <= GRIMHOLDI_ANSWER_DATA;
 }
 
 static inline int is_launched(const call *c, const grimholdi_answer *answer)
 {
-    return c->kind == LAUNCH && answer->number == GRIMHOLDI_DATA;
+    return c->kind == LAUNCH && answer->number == GRIMHOLDI_ANSWER_DATA;
 }
 
 static inline int port_1_is(uint8_t state)
@@ -167,7 +167,7 @@ static uint32_t last_port; /* where an event was done */
 
 static inline void note_event(const call *c, const grimholdi_answer *answer)
 {
-    if (c->kind == LINE_EVENT && answer->number == GRIMHOLDI_DONE)
+    if (c->kind == LINE_EVENT && answer->number == GRIMHOLDI_ANSWER_DONE)
         last_port = c->port;
 }
 

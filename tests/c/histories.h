@@ -46,7 +46,7 @@ static inline size_t given_by(int side)
 {
     const history *h = &histories[side];
 
-    if (h->answer.number != GRIMHOLDI_DATA)
+    if (h->answer.number != GRIMHOLDI_ANSWER_DATA)
         return 0;
     return h->answer.length < h->reply_len ? h->answer.length : h->reply_len;
 }
@@ -88,7 +88,7 @@ static inline void start_history(int side)
     draw_bytes(h->area, area_len);
     CHECK(grimholdi_new(h->area, area_len, made_from.ports, made_from.buffers,
                         numbers[0], numbers[1], numbers[2]).number
-          == GRIMHOLDI_DONE);
+          == GRIMHOLDI_ANSWER_DONE);
 }
 
 static inline uint64_t digest_with(uint64_t digest, const void *from,

@@ -112,8 +112,8 @@ static inline grimholdi_replayed check_replay(uint32_t place)
     make_calls(block);
     memset(answers, 0xEE, due.length + 100);
     r = replay(place);
-    CHECK(is_result(r, GRIMHOLDI_DONE, GRIMHOLDI_REFUSED_NOT, due.active,
-                    due.length));
+    CHECK(is_result(r, GRIMHOLDI_ANSWER_DONE, GRIMHOLDI_REFUSED_NOT,
+                    due.active, due.length));
     CHECK(is_tally(r, due.stored, due.answered, due.emptied));
     CHECK(memcmp(answers, due_answers, due.length) == 0);
     CHECK(answers[due.length] == 0xEE && answers[due.length + 99] == 0xEE);

@@ -77,11 +77,11 @@ static inline int poll_way(void)
     uint8_t left = histories[LEFT].answer.number;
     uint8_t right = histories[RIGHT].answer.number;
 
-    if (left == GRIMHOLDI_NAK)
-        return right == GRIMHOLDI_NAK ? NAK_NAK : NAK_DATA;
-    if (right == GRIMHOLDI_NAK)
+    if (left == GRIMHOLDI_ANSWER_NAK)
+        return right == GRIMHOLDI_ANSWER_NAK ? NAK_NAK : NAK_DATA;
+    if (right == GRIMHOLDI_ANSWER_NAK)
         return DATA_NAK;
-    if (left != GRIMHOLDI_DATA)
+    if (left != GRIMHOLDI_ANSWER_DATA)
         return REFUSED;
     return reply_of(LEFT)[0] == reply_of(RIGHT)[0] ? SAME_BITS : BITS_APART;
 }

@@ -39,7 +39,8 @@ static int all_explain(const uint8_t *bytes, size_t length)
     *next++ = grimholdi_why_tick(bytes, length);
     *next = grimholdi_why_bus_reset(bytes, length);
     for (i = 0; i < 13; i++)
-        if (!is_reason(reasons[i], GRIMHOLDI_WHY_NUMBER, GRIMHOLDI_OUTSIDE))
+        if (!is_reason(reasons[i], GRIMHOLDI_WHY_NUMBER,
+                       GRIMHOLDI_ANSWER_OUTSIDE))
             return 0;
     return 1;
 }
@@ -74,7 +75,8 @@ static int all_refuse(uint8_t *bytes, size_t length)
     *next++ = grimholdi_tick(bytes, length);
     *next = grimholdi_bus_reset(bytes, length);
     for (i = 0; i < 13; i++)
-        if (answers[i].number != GRIMHOLDI_OUTSIDE || !is_bare(answers[i]))
+        if (answers[i].number != GRIMHOLDI_ANSWER_OUTSIDE
+            || !is_bare(answers[i]))
             return 0;
     return all_explain(bytes, length)
            && (length == 0 || memcmp(kept, bytes, length) == 0);
@@ -85,7 +87,7 @@ static int is_taken(void)
 {
     return request(GRIMHOLDI_TYPE_GET_CONFIGURATION,
                    GRIMHOLDI_REQUEST_GET_CONFIGURATION, 0, 0, 1).number
-           == GRIMHOLDI_DATA
+           == GRIMHOLDI_ANSWER_DATA
            && is_reason(grimholdi_why_control(area, area_len, 0, setup, 8,
                                               64),
                         GRIMHOLDI_WHY_NONE, 0);
@@ -122,23 +124,23 @@ static void sample_hub(void)
 {
     new_hub(2, 3);
     CHECK(area_len == LENGTH);
-    CHECK(set_configuration(1) == GRIMHOLDI_DONE);
-    CHECK(set_feature(GRIMHOLDI_PORT_POWER, 1) == GRIMHOLDI_DONE);
-    CHECK(set_feature(GRIMHOLDI_PORT_POWER, 2) == GRIMHOLDI_DONE);
-    CHECK(event(GRIMHOLDI_EVENT_ATTACH_FULL, 1) == GRIMHOLDI_DONE);
-    CHECK(set_feature(GRIMHOLDI_PORT_RESET, 1) == GRIMHOLDI_DONE);
+    CHECK(set_configuration(1) == GRIMHOLDI_ANSWER_DONE);
+    CHECK(set_feature(GRIMHOLDI_PORT_POWER, 1) == GRIMHOLDI_ANSWER_DONE);
+    CHECK(set_feature(GRIMHOLDI_PORT_POWER, 2) == GRIMHOLDI_ANSWER_DONE);
+    CHECK(event(GRIMHOLDI_EVENT_ATTACH_FULL, 1) == GRIMHOLDI_ANSWER_DONE);
+    CHECK(set_feature(GRIMHOLDI_PORT_RESET, 1) == GRIMHOLDI_ANSWER_DONE);
     ticks(3);
-    CHECK(start_out(4, 1, NULL, 0) == GRIMHOLDI_DONE);
-    CHECK(start_in_from(1, 6, 1) == GRIMHOLDI_DONE);
+    CHECK(start_out(4, 1, NULL, 0) == GRIMHOLDI_ANSWER_DONE);
+    CHECK(start_in_from(1, 6, 1) == GRIMHOLDI_ANSWER_DONE);
     CHECK(launch().address == 4);
-    CHECK(deliver(GRIMHOLDI_RESULT_NAK, NULL, 0) == GRIMHOLDI_DONE);
+    CHECK(deliver(GRIMHOLDI_RESULT_NAK, NULL, 0) == GRIMHOLDI_ANSWER_DONE);
     CHECK(launch().address == 6);
     CHECK(deliver(GRIMHOLDI_RESULT_DATA1, (const uint8_t *)"de", 2)
-          == GRIMHOLDI_DONE);
+          == GRIMHOLDI_ANSWER_DONE);
     CHECK(complete(4, 1, GRIMHOLDI_DIRECTION_OUT).number
-          == GRIMHOLDI_HANDSHAKE);
-    CHECK(start_out(5, 1, (const uint8_t *)"abc", 3) == GRIMHOLDI_DONE);
-    CHECK(start_in_from(1, 7, 1) == GRIMHOLDI_DONE);
+          == GRIMHOLDI_ANSWER_HANDSHAKE);
+    CHECK(start_out(5, 1, (const uint8_t *)"abc", 3) == GRIMHOLDI_ANSWER_DONE);
+    CHECK(start_in_from(1, 7, 1) == GRIMHOLDI_ANSWER_DONE);
     CHECK(launch().address == 5);
 }
 
@@ -171,15 +173,16 @@ static void flags_byte(void)
         grimholdi_answer answer;
 
         new_hub(2, 3);
-        CHECK(set_configuration(1) == GRIMHOLDI_DONE);
+        CHECK(set_configuration(1) == GRIMHOLDI_ANSWER_DONE);
         CHECK(grimholdi_start_split(area, area_len, lane, GRIMHOLDI_PID_IN,
                                     GRIMHOLDI_TRANSFER_BULK, low_speed, toggle,
-                                    5, 1, NULL, 0).number == GRIMHOLDI_DONE);
+                                    5, 1, NULL, 0).number
+              == GRIMHOLDI_ANSWER_DONE);
         CHECK(area[BUFFER_0 + 3] == flags);
         answer = launch();
         CHECK(answer.low_speed == low_speed && answer.toggle == toggle
               && answer.lane == lane);
-        CHECK(deliver(GRIMHOLDI_RESULT_NAK, NULL, 0) == GRIMHOLDI_DONE);
+        CHECK(deliver(GRIMHOLDI_RESULT_NAK, NULL, 0) == GRIMHOLDI_ANSWER_DONE);
         CHECK(area[BUFFER_0 + 3] == flags);
     }
 }
@@ -206,16 +209,16 @@ static void worked_example(void)
 
     new_hub(4, 3);
     CHECK(area_len == sizeof expected);
-    CHECK(set_configuration(1) == GRIMHOLDI_DONE);
-    CHECK(start_in(5, 1) == GRIMHOLDI_DONE);
-    CHECK(start_in(6, 1) == GRIMHOLDI_DONE);
-    CHECK(start_in_from(1, 5, 1) == GRIMHOLDI_DONE);
+    CHECK(set_configuration(1) == GRIMHOLDI_ANSWER_DONE);
+    CHECK(start_in(5, 1) == GRIMHOLDI_ANSWER_DONE);
+    CHECK(start_in(6, 1) == GRIMHOLDI_ANSWER_DONE);
+    CHECK(start_in_from(1, 5, 1) == GRIMHOLDI_ANSWER_DONE);
     CHECK(launch().address == 5);
     memcpy(expected + 96, pending, sizeof pending);
     memcpy(expected + 168, lane_1, sizeof lane_1);
     CHECK(memcmp(area, expected, sizeof expected) == 0);
     CHECK(deliver(GRIMHOLDI_RESULT_DATA0, taken, sizeof taken)
-          == GRIMHOLDI_DONE);
+          == GRIMHOLDI_ANSWER_DONE);
     expected[6] = 0x00;
     memcpy(expected + 24, ready, sizeof ready);
     CHECK(memcmp(area, expected, sizeof expected) == 0);
@@ -252,7 +255,8 @@ static int new_refused(size_t length, uint32_t ports, uint32_t buffers,
     for (i = 0; i < length; i++)
         kept = kept && bytes[i] == 0xEE;
     free(bytes);
-    return kept && answer.number == GRIMHOLDI_OUTSIDE && is_bare(answer);
+    return kept && answer.number == GRIMHOLDI_ANSWER_OUTSIDE
+           && is_bare(answer);
 }
 
 static void new_hubs(void)
@@ -267,7 +271,7 @@ static void new_hubs(void)
             new_hub(ports, buffers);
             CHECK(is_taken());
             CHECK(grimholdi_new(area, area_len, ports, buffers, 255, 255,
-                                removable).number == GRIMHOLDI_DONE);
+                                removable).number == GRIMHOLDI_ANSWER_DONE);
             CHECK(is_taken());
             CHECK(new_refused(0, ports, buffers, 0, 0, 0));
             CHECK(new_refused(length - 1, ports, buffers, 0, 0, 0));
@@ -419,7 +423,7 @@ static void refused_buffers(void)
 
     /* An empty buffer is all zero. */
     CHECK(clear_tt_buffer_from(1, 6, 1, GRIMHOLDI_DIRECTION_IN)
-          == GRIMHOLDI_DONE);
+          == GRIMHOLDI_ANSWER_DONE);
     CHECK(is_taken());
     for (i = 0; i < 72; i++)
         CHECK(refused_with(BUFFER_1 + (size_t)i, 1));
@@ -537,7 +541,7 @@ static int gives_handshake(uint8_t pid, uint32_t direction)
     save();
     answer = complete(5, 1, direction);
     saved_area[BUFFER_0] = 3;
-    return answer.number == GRIMHOLDI_HANDSHAKE && answer.pid == pid
+    return answer.number == GRIMHOLDI_ANSWER_HANDSHAKE && answer.pid == pid
            && answer.length == 0 && launches_nothing(answer)
            && area_is_saved() && reply_is_saved();
 }
@@ -603,16 +607,16 @@ static void unreached_areas(void)
 
     /* Port 2 is powered under over-current. */
     area[PORT_2 + 3] = 0x20;
-    CHECK(event(GRIMHOLDI_EVENT_OVER_CURRENT_ON, 2) == GRIMHOLDI_DONE);
+    CHECK(event(GRIMHOLDI_EVENT_OVER_CURRENT_ON, 2) == GRIMHOLDI_ANSWER_DONE);
     CHECK(status_is(2, "\x08\x01\x00\x00"));
-    CHECK(event(GRIMHOLDI_EVENT_ATTACH_LOW, 2) == GRIMHOLDI_DONE);
+    CHECK(event(GRIMHOLDI_EVENT_ATTACH_LOW, 2) == GRIMHOLDI_ANSWER_DONE);
 
     /* The running transaction is not the earliest. */
     area[BUFFER_0 + 6] = 255;
     area[BUFFER_2 + 6] = 254;
-    CHECK(deliver(GRIMHOLDI_RESULT_ACK, NULL, 0) == GRIMHOLDI_DONE);
+    CHECK(deliver(GRIMHOLDI_RESULT_ACK, NULL, 0) == GRIMHOLDI_ANSWER_DONE);
     CHECK(complete(5, 1, GRIMHOLDI_DIRECTION_OUT).pid == GRIMHOLDI_RESULT_ACK);
-    CHECK(start_in(8, 1) == GRIMHOLDI_DONE);
+    CHECK(start_in(8, 1) == GRIMHOLDI_ANSWER_DONE);
     CHECK(area[BUFFER_0 + 6] == 1 && area[BUFFER_2 + 6] == 0);
     CHECK(launch().address == 7);
 }

@@ -92,7 +92,7 @@ static int is_refused(const uint8_t *bytes, size_t length)
     grimholdi_reason reason = grimholdi_why_tick(bytes, length);
 
     return reason.kind == GRIMHOLDI_WHY_NUMBER
-           && reason.value == GRIMHOLDI_OUTSIDE;
+           && reason.value == GRIMHOLDI_ANSWER_OUTSIDE;
 }
 
 /* A fault is named exactly if the area is refused; 1 if so. */

@@ -37,8 +37,8 @@ static void check_not_under_way(void)
 {
     keep();
     CHECK(grimholdi_block_add(block, BLOCK, tick_record, 1)
-          == GRIMHOLDI_OUTSIDE);
-    CHECK(grimholdi_block_finish(block, BLOCK) == GRIMHOLDI_OUTSIDE);
+          == GRIMHOLDI_ANSWER_OUTSIDE);
+    CHECK(grimholdi_block_finish(block, BLOCK) == GRIMHOLDI_ANSWER_OUTSIDE);
     CHECK(is_kept());
 }
 
@@ -51,7 +51,8 @@ static void started(void)
 
     for (i = 0; i < sizeof right / sizeof *right; i++) {
         memset(block, 0xEE, BLOCK);
-        CHECK(grimholdi_block_start(block, BLOCK, right[i]) == GRIMHOLDI_DONE);
+        CHECK(grimholdi_block_start(block, BLOCK, right[i])
+              == GRIMHOLDI_ANSWER_DONE);
         put_under_way(due_block, right[i], NULL, 0);
         CHECK(memcmp(block, due_block, BLOCK) == 0);
     }
@@ -59,7 +60,7 @@ static void started(void)
     keep();
     for (i = 0; i < sizeof wrong / sizeof *wrong; i++)
         CHECK(grimholdi_block_start(block, BLOCK, wrong[i])
-              == GRIMHOLDI_OUTSIDE);
+              == GRIMHOLDI_ANSWER_OUTSIDE);
     CHECK(is_kept());
 }
 
@@ -73,20 +74,22 @@ static void wrong_lengths(void)
     put_under_way(longer, 1, poll_record, sizeof poll_record);
     memcpy(kept, longer, sizeof kept);
     keep();
-    CHECK(grimholdi_block_start(block, 511, 1) == GRIMHOLDI_OUTSIDE);
+    CHECK(grimholdi_block_start(block, 511, 1) == GRIMHOLDI_ANSWER_OUTSIDE);
     CHECK(grimholdi_block_add(block, 511, tick_record, 1)
-          == GRIMHOLDI_OUTSIDE);
-    CHECK(grimholdi_block_finish(block, 511) == GRIMHOLDI_OUTSIDE);
+          == GRIMHOLDI_ANSWER_OUTSIDE);
+    CHECK(grimholdi_block_finish(block, 511) == GRIMHOLDI_ANSWER_OUTSIDE);
     CHECK(is_kept());
-    CHECK(grimholdi_block_start(longer, 513, 1) == GRIMHOLDI_OUTSIDE);
+    CHECK(grimholdi_block_start(longer, 513, 1) == GRIMHOLDI_ANSWER_OUTSIDE);
     CHECK(grimholdi_block_add(longer, 513, tick_record, 1)
-          == GRIMHOLDI_OUTSIDE);
-    CHECK(grimholdi_block_finish(longer, 513) == GRIMHOLDI_OUTSIDE);
+          == GRIMHOLDI_ANSWER_OUTSIDE);
+    CHECK(grimholdi_block_finish(longer, 513) == GRIMHOLDI_ANSWER_OUTSIDE);
     CHECK(memcmp(longer, kept, sizeof kept) == 0);
-    CHECK(grimholdi_block_start(NULL, 0, 1) == GRIMHOLDI_OUTSIDE);
-    CHECK(grimholdi_block_add(NULL, 0, tick_record, 1) == GRIMHOLDI_OUTSIDE);
-    CHECK(grimholdi_block_finish(NULL, 0) == GRIMHOLDI_OUTSIDE);
-    CHECK(grimholdi_block_add(block, BLOCK, NULL, 0) == GRIMHOLDI_OUTSIDE);
+    CHECK(grimholdi_block_start(NULL, 0, 1) == GRIMHOLDI_ANSWER_OUTSIDE);
+    CHECK(grimholdi_block_add(NULL, 0, tick_record, 1)
+          == GRIMHOLDI_ANSWER_OUTSIDE);
+    CHECK(grimholdi_block_finish(NULL, 0) == GRIMHOLDI_ANSWER_OUTSIDE);
+    CHECK(grimholdi_block_add(block, BLOCK, NULL, 0)
+          == GRIMHOLDI_ANSWER_OUTSIDE);
     CHECK(is_kept());
     free(longer);
 }
@@ -119,9 +122,11 @@ static void not_under_way(void)
 
     /* One byte of the number that waits is enough. */
     put_under_way(block, 256, NULL, 0);
-    CHECK(grimholdi_block_add(block, BLOCK, tick_record, 1) == GRIMHOLDI_DONE);
+    CHECK(grimholdi_block_add(block, BLOCK, tick_record, 1)
+          == GRIMHOLDI_ANSWER_DONE);
     put_under_way(block, 255, NULL, 0);
-    CHECK(grimholdi_block_add(block, BLOCK, tick_record, 1) == GRIMHOLDI_DONE);
+    CHECK(grimholdi_block_add(block, BLOCK, tick_record, 1)
+          == GRIMHOLDI_ANSWER_DONE);
 }
 
 /* For each count, the longest record that fits, and one byte more. */
@@ -139,10 +144,10 @@ static void fits_or_not(void)
         put_under_way(block, 3, records, used);
         keep();
         CHECK(grimholdi_block_add(block, BLOCK, long_record(fitting + 1),
-                                  fitting + 1) == GRIMHOLDI_NAK);
+                                  fitting + 1) == GRIMHOLDI_ANSWER_NAK);
         CHECK(is_kept());
         CHECK(grimholdi_block_add(block, BLOCK, long_record(fitting), fitting)
-              == (room < 7 ? GRIMHOLDI_NAK : GRIMHOLDI_DONE));
+              == (room < 7 ? GRIMHOLDI_ANSWER_NAK : GRIMHOLDI_ANSWER_DONE));
         if (room < 7) {
             CHECK(is_kept());
             continue;
@@ -161,17 +166,18 @@ static void ticks_until_full(void)
     size_t i;
 
     memset(records, 8, sizeof records);
-    CHECK(grimholdi_block_start(block, BLOCK, 40000) == GRIMHOLDI_DONE);
+    CHECK(grimholdi_block_start(block, BLOCK, 40000) == GRIMHOLDI_ANSWER_DONE);
     for (i = 1; i <= USED_MAX; i++) {
         CHECK(grimholdi_block_add(block, BLOCK, tick_record, 1)
-              == GRIMHOLDI_DONE);
+              == GRIMHOLDI_ANSWER_DONE);
         put_under_way(due_block, 40000, records, i);
         CHECK(memcmp(block, due_block, BLOCK) == 0);
     }
     keep();
-    CHECK(grimholdi_block_add(block, BLOCK, tick_record, 1) == GRIMHOLDI_NAK);
+    CHECK(grimholdi_block_add(block, BLOCK, tick_record, 1)
+          == GRIMHOLDI_ANSWER_NAK);
     CHECK(is_kept());
-    CHECK(grimholdi_block_finish(block, BLOCK) == GRIMHOLDI_DONE);
+    CHECK(grimholdi_block_finish(block, BLOCK) == GRIMHOLDI_ANSWER_DONE);
     put_finished(due_block, 40000, records, USED_MAX);
     CHECK(memcmp(block, due_block, BLOCK) == 0);
 }
@@ -185,14 +191,17 @@ static void outside_before_nak(void)
     memset(records, 8, sizeof records);
     put_under_way(block, 1, records, USED_MAX);
     keep();
-    CHECK(grimholdi_block_add(block, BLOCK, bad, 1) == GRIMHOLDI_OUTSIDE);
-    CHECK(grimholdi_block_add(block, BLOCK, bad, 600) == GRIMHOLDI_OUTSIDE);
-    CHECK(grimholdi_block_add(block, BLOCK, NULL, 0) == GRIMHOLDI_OUTSIDE);
+    CHECK(grimholdi_block_add(block, BLOCK, bad, 1)
+          == GRIMHOLDI_ANSWER_OUTSIDE);
+    CHECK(grimholdi_block_add(block, BLOCK, bad, 600)
+          == GRIMHOLDI_ANSWER_OUTSIDE);
+    CHECK(grimholdi_block_add(block, BLOCK, NULL, 0)
+          == GRIMHOLDI_ANSWER_OUTSIDE);
     CHECK(is_kept());
     put_finished(block, 1, NULL, 0);
     keep();
     CHECK(grimholdi_block_add(block, BLOCK, long_record(507), 507)
-          == GRIMHOLDI_OUTSIDE);
+          == GRIMHOLDI_ANSWER_OUTSIDE);
     CHECK(is_kept());
 }
 
@@ -208,7 +217,8 @@ static void add_looks_at_its_own(void)
     memcpy(due_block, block, BLOCK);
     due_block[2] = 2;
     due_block[5] = 8;
-    CHECK(grimholdi_block_add(block, BLOCK, tick_record, 1) == GRIMHOLDI_DONE);
+    CHECK(grimholdi_block_add(block, BLOCK, tick_record, 1)
+          == GRIMHOLDI_ANSWER_DONE);
     CHECK(memcmp(block, due_block, BLOCK) == 0);
 }
 
@@ -220,24 +230,25 @@ static void finished(void)
 
     for (i = 0; i < sizeof numbers / sizeof *numbers; i++) {
         CHECK(grimholdi_block_start(block, BLOCK, numbers[i])
-              == GRIMHOLDI_DONE);
+              == GRIMHOLDI_ANSWER_DONE);
         CHECK(grimholdi_block_add(block, BLOCK, long_record(300), 300)
-              == GRIMHOLDI_DONE);
-        CHECK(grimholdi_block_finish(block, BLOCK) == GRIMHOLDI_DONE);
+              == GRIMHOLDI_ANSWER_DONE);
+        CHECK(grimholdi_block_finish(block, BLOCK) == GRIMHOLDI_ANSWER_DONE);
         put_finished(due_block, numbers[i], long_record(300), 300);
         CHECK(memcmp(block, due_block, BLOCK) == 0);
         check_not_under_way();
     }
 
     /* Without records, and with a sum of 0 before the check. */
-    CHECK(grimholdi_block_start(block, BLOCK, 9) == GRIMHOLDI_DONE);
-    CHECK(grimholdi_block_finish(block, BLOCK) == GRIMHOLDI_DONE);
+    CHECK(grimholdi_block_start(block, BLOCK, 9) == GRIMHOLDI_ANSWER_DONE);
+    CHECK(grimholdi_block_finish(block, BLOCK) == GRIMHOLDI_ANSWER_DONE);
     put_finished(due_block, 9, NULL, 0);
     CHECK(memcmp(block, due_block, BLOCK) == 0);
     CHECK(grimholdi_block_start(block, BLOCK, 65536 - 1 - 8)
-          == GRIMHOLDI_DONE);
-    CHECK(grimholdi_block_add(block, BLOCK, tick_record, 1) == GRIMHOLDI_DONE);
-    CHECK(grimholdi_block_finish(block, BLOCK) == GRIMHOLDI_DONE);
+          == GRIMHOLDI_ANSWER_DONE);
+    CHECK(grimholdi_block_add(block, BLOCK, tick_record, 1)
+          == GRIMHOLDI_ANSWER_DONE);
+    CHECK(grimholdi_block_finish(block, BLOCK) == GRIMHOLDI_ANSWER_DONE);
     CHECK(block[510] == 0 && block[511] == 0);
 }
 
@@ -248,9 +259,10 @@ static void worked_example(void)
 
     due_block[510] = 0xF6;
     due_block[511] = 0xFF;
-    CHECK(grimholdi_block_start(block, BLOCK, 1) == GRIMHOLDI_DONE);
-    CHECK(grimholdi_block_add(block, BLOCK, tick_record, 1) == GRIMHOLDI_DONE);
-    CHECK(grimholdi_block_finish(block, BLOCK) == GRIMHOLDI_DONE);
+    CHECK(grimholdi_block_start(block, BLOCK, 1) == GRIMHOLDI_ANSWER_DONE);
+    CHECK(grimholdi_block_add(block, BLOCK, tick_record, 1)
+          == GRIMHOLDI_ANSWER_DONE);
+    CHECK(grimholdi_block_finish(block, BLOCK) == GRIMHOLDI_ANSWER_DONE);
     CHECK(memcmp(block, due_block, BLOCK) == 0);
 }
 
@@ -278,7 +290,8 @@ static void damaged(void)
                    && read_block(due_block, due_block[0]
                                             + 256u * due_block[1]) == 0;
             CHECK(grimholdi_block_finish(block, BLOCK)
-                  == (good ? GRIMHOLDI_DONE : GRIMHOLDI_OUTSIDE));
+                  == (good ? GRIMHOLDI_ANSWER_DONE
+                           : GRIMHOLDI_ANSWER_OUTSIDE));
             CHECK(memcmp(block, good ? due_block : before, BLOCK) == 0);
         }
 }

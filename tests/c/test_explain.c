@@ -34,38 +34,40 @@ static why number(uint8_t value)
 
 static why held(uint32_t buffer)
 {
-    return because(GRIMHOLDI_WHY_HELD, (uint8_t)buffer, GRIMHOLDI_DONE);
+    return because(GRIMHOLDI_WHY_HELD, (uint8_t)buffer, GRIMHOLDI_ANSWER_DONE);
 }
 
 static why reused(uint32_t buffer)
 {
-    return because(GRIMHOLDI_WHY_REUSED, (uint8_t)buffer, GRIMHOLDI_DONE);
+    return because(GRIMHOLDI_WHY_REUSED, (uint8_t)buffer,
+                   GRIMHOLDI_ANSWER_DONE);
 }
 
 static why took_free(uint32_t buffer)
 {
-    return because(GRIMHOLDI_WHY_TOOK_FREE, (uint8_t)buffer, GRIMHOLDI_DONE);
+    return because(GRIMHOLDI_WHY_TOOK_FREE, (uint8_t)buffer,
+                   GRIMHOLDI_ANSWER_DONE);
 }
 
 static why limit(void)
 {
-    return because(GRIMHOLDI_WHY_LIMIT, 0, GRIMHOLDI_NAK);
+    return because(GRIMHOLDI_WHY_LIMIT, 0, GRIMHOLDI_ANSWER_NAK);
 }
 
 static why no_room(void)
 {
-    return because(GRIMHOLDI_WHY_NO_ROOM, 0, GRIMHOLDI_NAK);
+    return because(GRIMHOLDI_WHY_NO_ROOM, 0, GRIMHOLDI_ANSWER_NAK);
 }
 
 static why wrong(uint8_t what)
 {
-    return because(GRIMHOLDI_WHY_WRONG, what, GRIMHOLDI_STALL);
+    return because(GRIMHOLDI_WHY_WRONG, what, GRIMHOLDI_ANSWER_STALL);
 }
 
 /* Seven bytes, port 1 first. */
 static why changes(const char *bits)
 {
-    why w = because(GRIMHOLDI_WHY_CHANGES, 0, GRIMHOLDI_DATA);
+    why w = because(GRIMHOLDI_WHY_CHANGES, 0, GRIMHOLDI_ANSWER_DATA);
 
     memcpy(w.reason.changes, bits, GRIMHOLDI_PORTS_MAX);
     return w;
@@ -301,7 +303,7 @@ static void held_pending_and_ready(uint32_t lane)
     configured_hub(4, 4);
     make_ready(lane, 5, "five");
     make_ready(other, 6, "six");
-    CHECK(start_in_from(lane, 7, 1) == GRIMHOLDI_DONE);
+    CHECK(start_in_from(lane, 7, 1) == GRIMHOLDI_ANSWER_DONE);
     CHECK(in_of(lane, 5, held(0)));
     CHECK(in_of(other, 6, held(1)));
     CHECK(in_of(lane, 7, held(2)));
@@ -318,7 +320,7 @@ static void held_pending_and_ready(uint32_t lane)
 static void held_whatever_it_says(void)
 {
     configured_hub(4, 3);
-    CHECK(start_out(5, 1, (const uint8_t *)"abc", 3) == GRIMHOLDI_DONE);
+    CHECK(start_out(5, 1, (const uint8_t *)"abc", 3) == GRIMHOLDI_ANSWER_DONE);
     CHECK(start_of(0, 1, 2, 0, 0, 5, 1, 3, held(0)));
     CHECK(start_of(0, 1, 0, 1, 1, 5, 1, 64, held(0)));
     CHECK(start_of(0, 13, 0, 0, 0, 5, 1, 8, held(0)));
@@ -337,11 +339,11 @@ static void reused_before_lower_ones(uint32_t lane)
     make_ready(lane, 4, "four");
     make_old(lane, 5, "five");
     CHECK(clear_tt_buffer_from(lane, 4, 1, GRIMHOLDI_DIRECTION_IN)
-          == GRIMHOLDI_DONE);
+          == GRIMHOLDI_ANSWER_DONE);
     CHECK(in_of(lane, 5, reused(1)));
     CHECK(in_of(lane, 6, took_free(0)));
     CHECK(in_of(other, 5, took_free(0)));
-    CHECK(start_in_from(other, 6, 1) == GRIMHOLDI_DONE);
+    CHECK(start_in_from(other, 6, 1) == GRIMHOLDI_ANSWER_DONE);
     CHECK(in_of(lane, 5, reused(1)));
 
     /* An old one of another key, or another lane, is free. */
@@ -358,12 +360,12 @@ static void free_from_the_lowest(uint32_t buffers, uint32_t lane)
     configured_hub(4, buffers);
     for (i = 0; i + 1 < buffers; i++) {
         CHECK(in_of(lane, 10 + i, took_free(i)));
-        CHECK(start_in_from(lane, 10 + i, 1) == GRIMHOLDI_DONE);
+        CHECK(start_in_from(lane, 10 + i, 1) == GRIMHOLDI_ANSWER_DONE);
         CHECK(in_of(lane, 10 + i, held(i)));
     }
     CHECK(in_of(1 - lane, 10, took_free(i)));
     CHECK(clear_tt_buffer_from(lane, 10, 1, GRIMHOLDI_DIRECTION_IN)
-          == GRIMHOLDI_DONE);
+          == GRIMHOLDI_ANSWER_DONE);
     CHECK(in_of(lane, 10, took_free(0)));
     CHECK(in_of(1 - lane, 10, took_free(0)));
 }
@@ -376,11 +378,11 @@ static void limit_before_no_room(uint32_t buffers, uint32_t lane)
 
     configured_hub(4, buffers);
     for (i = 0; i + 1 < buffers; i++)
-        CHECK(start_in_from(lane, 10 + i, 1) == GRIMHOLDI_DONE);
+        CHECK(start_in_from(lane, 10 + i, 1) == GRIMHOLDI_ANSWER_DONE);
     CHECK(in_of(lane, 20, limit()));
     CHECK(in_of(lane, 10, held(0)));
     CHECK(in_of(lane, 10 + i - 1, held(i - 1)));
-    CHECK(start_in_from(other, 20, 1) == GRIMHOLDI_DONE);
+    CHECK(start_in_from(other, 20, 1) == GRIMHOLDI_ANSWER_DONE);
     CHECK(in_of(lane, 20, limit()));
     CHECK(in_of(lane, 10, held(0)));
     CHECK(in_of(other, 20, held(i)));
@@ -398,7 +400,7 @@ static void limit_in_its_own_old_one(uint32_t lane)
     make_old(lane, 7, "seven");
     CHECK(has_text(1 - lane, 6, "six"));
     CHECK(in_of(lane, 7, reused(2)));
-    CHECK(start_in_from(lane, 8, 1) == GRIMHOLDI_DONE);
+    CHECK(start_in_from(lane, 8, 1) == GRIMHOLDI_ANSWER_DONE);
     CHECK(in_of(lane, 7, limit()));
     CHECK(in_of(lane, 9, limit()));
     CHECK(in_of(lane, 5, held(0)));
@@ -414,8 +416,8 @@ static void no_room_in_both_lanes(void)
     configured_hub(4, 4);
     make_ready(0, 5, "five");
     make_ready(1, 5, "cinq");
-    CHECK(start_in_from(0, 6, 1) == GRIMHOLDI_DONE);
-    CHECK(start_in_from(1, 6, 1) == GRIMHOLDI_DONE);
+    CHECK(start_in_from(0, 6, 1) == GRIMHOLDI_ANSWER_DONE);
+    CHECK(start_in_from(1, 6, 1) == GRIMHOLDI_ANSWER_DONE);
     for (lane = 0; lane < 2; lane++) {
         CHECK(in_of(lane, 7, no_room()));
         CHECK(in_of(lane, 5, held(lane)));
@@ -464,7 +466,7 @@ static int is_true(why w, uint32_t lane, uint32_t address)
 static why true_reason(uint32_t lane, uint32_t address, int *count)
 {
     why choices[3 * GRIMHOLDI_BUFFERS_MAX + 2];
-    why found = none(GRIMHOLDI_DONE);
+    why found = none(GRIMHOLDI_ANSWER_DONE);
     uint32_t n = 0;
     uint32_t i;
 
@@ -513,7 +515,7 @@ static void one_reason_is_true(uint32_t buffers)
 
 static void start_numbers(void)
 {
-    const why outside = number(GRIMHOLDI_OUTSIDE);
+    const why outside = number(GRIMHOLDI_ANSWER_OUTSIDE);
 
     CHECK(start_of(2, 9, 2, 0, 0, 5, 1, 0, outside));
     CHECK(start_of(256, 9, 2, 0, 0, 5, 1, 0, outside));
@@ -538,16 +540,16 @@ static void start_refusals(void)
 {
     new_hub(4, 2);
     start_numbers();
-    CHECK(in_of(0, 5, number(GRIMHOLDI_SILENT)));
-    CHECK(in_of(1, 5, number(GRIMHOLDI_SILENT)));
+    CHECK(in_of(0, 5, number(GRIMHOLDI_ANSWER_SILENT)));
+    CHECK(in_of(1, 5, number(GRIMHOLDI_ANSWER_SILENT)));
     put_buffer(0, 1, 0);
-    CHECK(start_of(0, 9, 2, 0, 0, 10, 0, 0, number(GRIMHOLDI_SILENT)));
-    CHECK(in_of(0, 5, number(GRIMHOLDI_SILENT)));
+    CHECK(start_of(0, 9, 2, 0, 0, 10, 0, 0, number(GRIMHOLDI_ANSWER_SILENT)));
+    CHECK(in_of(0, 5, number(GRIMHOLDI_ANSWER_SILENT)));
     configured_hub(4, 2);
     start_numbers();
 
     /* A number outside the rules comes before a repeat and the limit. */
-    CHECK(start_in(5, 1) == GRIMHOLDI_DONE);
+    CHECK(start_in(5, 1) == GRIMHOLDI_ANSWER_DONE);
     start_numbers();
     CHECK(in_of(0, 5, held(0)));
     CHECK(in_of(0, 6, limit()));
@@ -568,7 +570,7 @@ static void every_change_bit(uint32_t ports)
             bits[port - 1] = (char)(marks & 31);
             port_bytes(port)[3] = (uint8_t)marks;
             CHECK(poll_of(marks & 1, 64,
-                          (marks & 31) == 0 ? none(GRIMHOLDI_NAK)
+                          (marks & 31) == 0 ? none(GRIMHOLDI_ANSWER_NAK)
                                             : changes(bits)));
             port_bytes(port)[3] = 0;
         }
@@ -578,23 +580,25 @@ static void every_change_bit(uint32_t ports)
 static void changes_by_calls(void)
 {
     configured_hub(4, 3);
-    CHECK(poll_of(0, 64, none(GRIMHOLDI_NAK)));
-    CHECK(set_feature(GRIMHOLDI_PORT_POWER, 1) == GRIMHOLDI_DONE);
-    CHECK(set_feature(GRIMHOLDI_PORT_POWER, 3) == GRIMHOLDI_DONE);
-    CHECK(event(GRIMHOLDI_EVENT_ATTACH_FULL, 3) == GRIMHOLDI_DONE);
+    CHECK(poll_of(0, 64, none(GRIMHOLDI_ANSWER_NAK)));
+    CHECK(set_feature(GRIMHOLDI_PORT_POWER, 1) == GRIMHOLDI_ANSWER_DONE);
+    CHECK(set_feature(GRIMHOLDI_PORT_POWER, 3) == GRIMHOLDI_ANSWER_DONE);
+    CHECK(event(GRIMHOLDI_EVENT_ATTACH_FULL, 3) == GRIMHOLDI_ANSWER_DONE);
     CHECK(poll_of(0, 64, changes("\0\0\x01\0\0\0\0")));
-    CHECK(set_feature(GRIMHOLDI_PORT_RESET, 3) == GRIMHOLDI_DONE);
+    CHECK(set_feature(GRIMHOLDI_PORT_RESET, 3) == GRIMHOLDI_ANSWER_DONE);
     ticks(GRIMHOLDI_RESET_TICKS);
     CHECK(poll_of(1, 64, changes("\0\0\x11\0\0\0\0")));
-    CHECK(set_feature(GRIMHOLDI_PORT_SUSPEND, 3) == GRIMHOLDI_DONE);
-    CHECK(event(GRIMHOLDI_EVENT_WAKE, 3) == GRIMHOLDI_DONE);
+    CHECK(set_feature(GRIMHOLDI_PORT_SUSPEND, 3) == GRIMHOLDI_ANSWER_DONE);
+    CHECK(event(GRIMHOLDI_EVENT_WAKE, 3) == GRIMHOLDI_ANSWER_DONE);
     ticks(GRIMHOLDI_RESUME_TICKS);
-    CHECK(event(GRIMHOLDI_EVENT_PORT_ERROR, 3) == GRIMHOLDI_DONE);
-    CHECK(event(GRIMHOLDI_EVENT_OVER_CURRENT_ON, 1) == GRIMHOLDI_DONE);
-    CHECK(event(GRIMHOLDI_EVENT_OVER_CURRENT_ON, 4) == GRIMHOLDI_DONE);
+    CHECK(event(GRIMHOLDI_EVENT_PORT_ERROR, 3) == GRIMHOLDI_ANSWER_DONE);
+    CHECK(event(GRIMHOLDI_EVENT_OVER_CURRENT_ON, 1) == GRIMHOLDI_ANSWER_DONE);
+    CHECK(event(GRIMHOLDI_EVENT_OVER_CURRENT_ON, 4) == GRIMHOLDI_ANSWER_DONE);
     CHECK(poll_of(0, 64, changes("\x08\0\x17\x08\0\0\0")));
-    CHECK(clear_feature(GRIMHOLDI_C_PORT_CONNECTION, 3) == GRIMHOLDI_DONE);
-    CHECK(clear_feature(GRIMHOLDI_C_PORT_OVER_CURRENT, 1) == GRIMHOLDI_DONE);
+    CHECK(clear_feature(GRIMHOLDI_C_PORT_CONNECTION, 3)
+          == GRIMHOLDI_ANSWER_DONE);
+    CHECK(clear_feature(GRIMHOLDI_C_PORT_OVER_CURRENT, 1)
+          == GRIMHOLDI_ANSWER_DONE);
     CHECK(poll_of(1, 64, changes("\0\0\x16\x08\0\0\0")));
 }
 
@@ -625,11 +629,12 @@ static void nothing_above_the_last_port(void)
         configured_hub(ports, 2);
         CHECK(grimholdi_start_split(area, area_len, 1, GRIMHOLDI_PID_OUT,
                                     GRIMHOLDI_TRANSFER_BULK, 1, 1, 15, 15,
-                                    payload, 64).number == GRIMHOLDI_DONE);
-        CHECK(poll_of(0, 64, none(GRIMHOLDI_NAK)));
+                                    payload, 64).number
+              == GRIMHOLDI_ANSWER_DONE);
+        CHECK(poll_of(0, 64, none(GRIMHOLDI_ANSWER_NAK)));
         bits[ports - 1] = 0x08;
         CHECK(event(GRIMHOLDI_EVENT_OVER_CURRENT_ON, ports)
-              == GRIMHOLDI_DONE);
+              == GRIMHOLDI_ANSWER_DONE);
         CHECK(poll_of(0, 64, changes(bits)));
     }
 }
@@ -638,17 +643,17 @@ static void poll_refusals(void)
 {
     new_hub(4, 3);
     port_bytes(2)[3] = 0x01;
-    CHECK(poll_of(0, 64, number(GRIMHOLDI_SILENT)));
-    CHECK(poll_of(1, 64, number(GRIMHOLDI_SILENT)));
-    CHECK(poll_of(0, 63, number(GRIMHOLDI_NO_SPACE)));
-    CHECK(poll_of(0, 0, number(GRIMHOLDI_NO_SPACE)));
-    CHECK(poll_of(2, 64, number(GRIMHOLDI_OUTSIDE)));
-    CHECK(poll_of(2, 63, number(GRIMHOLDI_OUTSIDE)));
+    CHECK(poll_of(0, 64, number(GRIMHOLDI_ANSWER_SILENT)));
+    CHECK(poll_of(1, 64, number(GRIMHOLDI_ANSWER_SILENT)));
+    CHECK(poll_of(0, 63, number(GRIMHOLDI_ANSWER_NO_SPACE)));
+    CHECK(poll_of(0, 0, number(GRIMHOLDI_ANSWER_NO_SPACE)));
+    CHECK(poll_of(2, 64, number(GRIMHOLDI_ANSWER_OUTSIDE)));
+    CHECK(poll_of(2, 63, number(GRIMHOLDI_ANSWER_OUTSIDE)));
     configured_hub(4, 3);
-    CHECK(poll_of(1, 63, number(GRIMHOLDI_NO_SPACE)));
+    CHECK(poll_of(1, 63, number(GRIMHOLDI_ANSWER_NO_SPACE)));
     port_bytes(2)[3] = 0x01;
-    CHECK(poll_of(1, 63, number(GRIMHOLDI_NO_SPACE)));
-    CHECK(poll_of(FAR_NUMBER, 0, number(GRIMHOLDI_OUTSIDE)));
+    CHECK(poll_of(1, 63, number(GRIMHOLDI_ANSWER_NO_SPACE)));
+    CHECK(poll_of(FAR_NUMBER, 0, number(GRIMHOLDI_ANSWER_OUTSIDE)));
     CHECK(poll_of(1, 64, changes("\0\x01\0\0\0\0\0")));
 }
 
@@ -661,16 +666,16 @@ static const struct {
     uint16_t wrong_value, wrong_index, wrong_length;
     uint8_t answer;
 } requests[] = { /* for a hub of 4 ports; any wLength suits a descriptor */
-    {0x00, 0x09, 1, 1, 0, 0,      2, 1, 1,      GRIMHOLDI_DONE},
-    {0x80, 0x08, 1, 0, 0, 1,      1, 1, 0,      GRIMHOLDI_DATA},
-    {0xA0, 0x06, 1, 0x2900, 0, 9, 0x2901, 1, 9, GRIMHOLDI_DATA},
-    {0xA0, 0x00, 0, 0, 0, 4,      1, 1, 3,      GRIMHOLDI_DATA},
-    {0xA3, 0x00, 0, 0, 4, 4,      1, 5, 5,      GRIMHOLDI_DATA},
-    {0x20, 0x01, 0, 1, 0, 0,      2, 1, 1,      GRIMHOLDI_DONE},
-    {0x23, 0x01, 0, 8, 1, 0,      4, 0, 1,      GRIMHOLDI_DONE},
-    {0x23, 0x03, 0, 4, 4, 0,      1, 5, 1,      GRIMHOLDI_DONE},
-    {0x23, 0x08, 0, 0x9051, 1, 0, 0x0851, 2, 1, GRIMHOLDI_DONE},
-    {0x23, 0x09, 0, 0, 1, 0,      1, 0, 1,      GRIMHOLDI_DONE}
+    {0x00, 0x09, 1, 1, 0, 0,      2, 1, 1,      GRIMHOLDI_ANSWER_DONE},
+    {0x80, 0x08, 1, 0, 0, 1,      1, 1, 0,      GRIMHOLDI_ANSWER_DATA},
+    {0xA0, 0x06, 1, 0x2900, 0, 9, 0x2901, 1, 9, GRIMHOLDI_ANSWER_DATA},
+    {0xA0, 0x00, 0, 0, 0, 4,      1, 1, 3,      GRIMHOLDI_ANSWER_DATA},
+    {0xA3, 0x00, 0, 0, 4, 4,      1, 5, 5,      GRIMHOLDI_ANSWER_DATA},
+    {0x20, 0x01, 0, 1, 0, 0,      2, 1, 1,      GRIMHOLDI_ANSWER_DONE},
+    {0x23, 0x01, 0, 8, 1, 0,      4, 0, 1,      GRIMHOLDI_ANSWER_DONE},
+    {0x23, 0x03, 0, 4, 4, 0,      1, 5, 1,      GRIMHOLDI_ANSWER_DONE},
+    {0x23, 0x08, 0, 0x9051, 1, 0, 0x0851, 2, 1, GRIMHOLDI_ANSWER_DONE},
+    {0x23, 0x09, 0, 0, 1, 0,      1, 0, 1,      GRIMHOLDI_ANSWER_DONE}
 };
 
 enum { REQUESTS = sizeof requests / sizeof *requests };
@@ -781,24 +786,26 @@ static void served_requests(void)
 {
     uint16_t feature;
 
-    CHECK(request_of(0x00, 0x09, 0, 0, 0, none(GRIMHOLDI_DONE)));
-    CHECK(request_of(0xA0, 0x06, 0x2900, 0, 0, none(GRIMHOLDI_DATA)));
-    CHECK(request_of(0xA0, 0x06, 0x2900, 0, 0xFFFF, none(GRIMHOLDI_DATA)));
-    CHECK(request_of(0x20, 0x01, 0, 0, 0, none(GRIMHOLDI_DONE)));
-    CHECK(request_of(0x23, 0x01, 1, 4, 0, none(GRIMHOLDI_DONE)));
-    CHECK(request_of(0x23, 0x01, 2, 4, 0, none(GRIMHOLDI_DONE)));
+    CHECK(request_of(0x00, 0x09, 0, 0, 0, none(GRIMHOLDI_ANSWER_DONE)));
+    CHECK(request_of(0xA0, 0x06, 0x2900, 0, 0, none(GRIMHOLDI_ANSWER_DATA)));
+    CHECK(request_of(0xA0, 0x06, 0x2900, 0, 0xFFFF,
+                     none(GRIMHOLDI_ANSWER_DATA)));
+    CHECK(request_of(0x20, 0x01, 0, 0, 0, none(GRIMHOLDI_ANSWER_DONE)));
+    CHECK(request_of(0x23, 0x01, 1, 4, 0, none(GRIMHOLDI_ANSWER_DONE)));
+    CHECK(request_of(0x23, 0x01, 2, 4, 0, none(GRIMHOLDI_ANSWER_DONE)));
     for (feature = 16; feature <= 20; feature++)
-        CHECK(request_of(0x23, 0x01, feature, 4, 0, none(GRIMHOLDI_DONE)));
-    CHECK(request_of(0x23, 0x03, 2, 1, 0, none(GRIMHOLDI_DONE)));
-    CHECK(request_of(0x23, 0x03, 8, 1, 0, none(GRIMHOLDI_DONE)));
-    CHECK(request_of(0x23, 0x08, 0x97FF, 1, 0, none(GRIMHOLDI_DONE)));
+        CHECK(request_of(0x23, 0x01, feature, 4, 0,
+                         none(GRIMHOLDI_ANSWER_DONE)));
+    CHECK(request_of(0x23, 0x03, 2, 1, 0, none(GRIMHOLDI_ANSWER_DONE)));
+    CHECK(request_of(0x23, 0x03, 8, 1, 0, none(GRIMHOLDI_ANSWER_DONE)));
+    CHECK(request_of(0x23, 0x08, 0x97FF, 1, 0, none(GRIMHOLDI_ANSWER_DONE)));
 }
 
 /* The numbers come before whatever the setup bytes say. */
 static void control_numbers(const uint8_t *setup)
 {
-    const why outside = number(GRIMHOLDI_OUTSIDE);
-    const why no_space = number(GRIMHOLDI_NO_SPACE);
+    const why outside = number(GRIMHOLDI_ANSWER_OUTSIDE);
+    const why no_space = number(GRIMHOLDI_ANSWER_NO_SPACE);
 
     CHECK(control_of(0, setup, 8, 63, no_space));
     CHECK(control_of(1, setup, 8, 0, no_space));
@@ -833,7 +840,7 @@ static void control_reasons(void)
     other_types_and_codes();
     control_refusals();
     configured_hub(4, 3);
-    CHECK(start_in(5, 1) == GRIMHOLDI_DONE);
+    CHECK(start_in(5, 1) == GRIMHOLDI_ANSWER_DONE);
     CHECK(launches(0, 5));
     first_wrong_fields(1);
     other_types_and_codes();
@@ -843,10 +850,10 @@ static void control_reasons(void)
 
     /* The number of ports is the hub's own. */
     configured_hub(1, 2);
-    CHECK(request_of(0xA3, 0x00, 0, 1, 4, none(GRIMHOLDI_DATA)));
+    CHECK(request_of(0xA3, 0x00, 0, 1, 4, none(GRIMHOLDI_ANSWER_DATA)));
     CHECK(request_of(0xA3, 0x00, 0, 2, 4, wrong(GRIMHOLDI_WRONG_INDEX)));
     configured_hub(7, 2);
-    CHECK(request_of(0x23, 0x03, 8, 7, 0, none(GRIMHOLDI_DONE)));
+    CHECK(request_of(0x23, 0x03, 8, 7, 0, none(GRIMHOLDI_ANSWER_DONE)));
     CHECK(request_of(0x23, 0x03, 8, 8, 0, wrong(GRIMHOLDI_WRONG_INDEX)));
 }
 
@@ -854,11 +861,11 @@ static void control_reasons(void)
 
 static void complete_split_reasons(void)
 {
-    const why outside = number(GRIMHOLDI_OUTSIDE);
+    const why outside = number(GRIMHOLDI_ANSWER_OUTSIDE);
 
     new_hub(4, 3);
-    CHECK(complete_of(0, 5, 1, 1, 64, number(GRIMHOLDI_SILENT)));
-    CHECK(complete_of(1, 5, 1, 1, 63, number(GRIMHOLDI_NO_SPACE)));
+    CHECK(complete_of(0, 5, 1, 1, 64, number(GRIMHOLDI_ANSWER_SILENT)));
+    CHECK(complete_of(1, 5, 1, 1, 63, number(GRIMHOLDI_ANSWER_NO_SPACE)));
     CHECK(complete_of(0, 128, 1, 1, 63, outside));
     configured_hub(4, 3);
     CHECK(complete_of(2, 5, 1, 1, 64, outside));
@@ -866,53 +873,54 @@ static void complete_split_reasons(void)
     CHECK(complete_of(0, 5, 16, 1, 64, outside));
     CHECK(complete_of(0, 5, 1, 2, 64, outside));
     CHECK(complete_of(0, 5, 1, FAR_NUMBER, 0, outside));
-    CHECK(complete_of(0, 5, 1, 1, 64, none(GRIMHOLDI_STALL)));
-    CHECK(complete_of(0, 5, 1, 1, 0, number(GRIMHOLDI_NO_SPACE)));
-    CHECK(start_in(5, 1) == GRIMHOLDI_DONE);
-    CHECK(complete_of(0, 5, 1, 1, 64, none(GRIMHOLDI_NYET)));
-    CHECK(complete_of(0, 5, 1, 1, 63, number(GRIMHOLDI_NO_SPACE)));
-    CHECK(complete_of(1, 5, 1, 1, 64, none(GRIMHOLDI_STALL)));
-    CHECK(complete_of(0, 5, 1, 0, 64, none(GRIMHOLDI_STALL)));
+    CHECK(complete_of(0, 5, 1, 1, 64, none(GRIMHOLDI_ANSWER_STALL)));
+    CHECK(complete_of(0, 5, 1, 1, 0, number(GRIMHOLDI_ANSWER_NO_SPACE)));
+    CHECK(start_in(5, 1) == GRIMHOLDI_ANSWER_DONE);
+    CHECK(complete_of(0, 5, 1, 1, 64, none(GRIMHOLDI_ANSWER_NYET)));
+    CHECK(complete_of(0, 5, 1, 1, 63, number(GRIMHOLDI_ANSWER_NO_SPACE)));
+    CHECK(complete_of(1, 5, 1, 1, 64, none(GRIMHOLDI_ANSWER_STALL)));
+    CHECK(complete_of(0, 5, 1, 0, 64, none(GRIMHOLDI_ANSWER_STALL)));
     CHECK(launches(0, 5));
-    CHECK(deliver_text("five") == GRIMHOLDI_DONE);
-    CHECK(complete_of(0, 5, 1, 1, 64, none(GRIMHOLDI_DATA)));
+    CHECK(deliver_text("five") == GRIMHOLDI_ANSWER_DONE);
+    CHECK(complete_of(0, 5, 1, 1, 64, none(GRIMHOLDI_ANSWER_DATA)));
     make_ready(1, 6, "");
-    CHECK(complete_of(1, 6, 1, 1, 64, none(GRIMHOLDI_DATA)));
-    CHECK(start_in_from(1, 7, 1) == GRIMHOLDI_DONE);
+    CHECK(complete_of(1, 6, 1, 1, 64, none(GRIMHOLDI_ANSWER_DATA)));
+    CHECK(start_in_from(1, 7, 1) == GRIMHOLDI_ANSWER_DONE);
     CHECK(launches(1, 7));
-    CHECK(deliver(GRIMHOLDI_RESULT_STALL, NULL, 0) == GRIMHOLDI_DONE);
-    CHECK(complete_of(1, 7, 1, 1, 64, none(GRIMHOLDI_HANDSHAKE)));
+    CHECK(deliver(GRIMHOLDI_RESULT_STALL, NULL, 0) == GRIMHOLDI_ANSWER_DONE);
+    CHECK(complete_of(1, 7, 1, 1, 64, none(GRIMHOLDI_ANSWER_HANDSHAKE)));
 }
 
 static void launch_reasons(void)
 {
     new_hub(4, 3);
-    CHECK(launch_of(64, number(GRIMHOLDI_SILENT)));
-    CHECK(launch_of(63, number(GRIMHOLDI_NO_SPACE)));
+    CHECK(launch_of(64, number(GRIMHOLDI_ANSWER_SILENT)));
+    CHECK(launch_of(63, number(GRIMHOLDI_ANSWER_NO_SPACE)));
     area[6] = 2; /* the low side is occupied */
-    CHECK(launch_of(64, number(GRIMHOLDI_SILENT)));
+    CHECK(launch_of(64, number(GRIMHOLDI_ANSWER_SILENT)));
     configured_hub(4, 3);
-    CHECK(launch_of(64, none(GRIMHOLDI_NAK)));
-    CHECK(launch_of(0, number(GRIMHOLDI_NO_SPACE)));
-    CHECK(start_in(5, 1) == GRIMHOLDI_DONE);
-    CHECK(launch_of(64, none(GRIMHOLDI_DATA)));
+    CHECK(launch_of(64, none(GRIMHOLDI_ANSWER_NAK)));
+    CHECK(launch_of(0, number(GRIMHOLDI_ANSWER_NO_SPACE)));
+    CHECK(start_in(5, 1) == GRIMHOLDI_ANSWER_DONE);
+    CHECK(launch_of(64, none(GRIMHOLDI_ANSWER_DATA)));
     CHECK(launches(0, 5));
-    CHECK(launch_of(64, number(GRIMHOLDI_NOT_NOW)));
-    CHECK(launch_of(63, number(GRIMHOLDI_NO_SPACE)));
-    CHECK(clear_tt_buffer(5, 1, GRIMHOLDI_DIRECTION_IN) == GRIMHOLDI_DONE);
-    CHECK(launch_of(64, number(GRIMHOLDI_NOT_NOW)));
-    CHECK(deliver(GRIMHOLDI_RESULT_ACK, NULL, 0) == GRIMHOLDI_DONE);
-    CHECK(launch_of(64, none(GRIMHOLDI_NAK)));
+    CHECK(launch_of(64, number(GRIMHOLDI_ANSWER_NOT_NOW)));
+    CHECK(launch_of(63, number(GRIMHOLDI_ANSWER_NO_SPACE)));
+    CHECK(clear_tt_buffer(5, 1, GRIMHOLDI_DIRECTION_IN)
+          == GRIMHOLDI_ANSWER_DONE);
+    CHECK(launch_of(64, number(GRIMHOLDI_ANSWER_NOT_NOW)));
+    CHECK(deliver(GRIMHOLDI_RESULT_ACK, NULL, 0) == GRIMHOLDI_ANSWER_DONE);
+    CHECK(launch_of(64, none(GRIMHOLDI_ANSWER_NAK)));
 }
 
 static void deliver_numbers(void)
 {
-    CHECK(deliver_of(1, 0, number(GRIMHOLDI_OUTSIDE)));
-    CHECK(deliver_of(256, 0, number(GRIMHOLDI_OUTSIDE)));
-    CHECK(deliver_of(FAR_NUMBER, 0, number(GRIMHOLDI_OUTSIDE)));
-    CHECK(deliver_of(3, 65, number(GRIMHOLDI_OUTSIDE)));
-    CHECK(deliver_of(11, 256, number(GRIMHOLDI_OUTSIDE)));
-    CHECK(deliver_of(2, 1, number(GRIMHOLDI_OUTSIDE)));
+    CHECK(deliver_of(1, 0, number(GRIMHOLDI_ANSWER_OUTSIDE)));
+    CHECK(deliver_of(256, 0, number(GRIMHOLDI_ANSWER_OUTSIDE)));
+    CHECK(deliver_of(FAR_NUMBER, 0, number(GRIMHOLDI_ANSWER_OUTSIDE)));
+    CHECK(deliver_of(3, 65, number(GRIMHOLDI_ANSWER_OUTSIDE)));
+    CHECK(deliver_of(11, 256, number(GRIMHOLDI_ANSWER_OUTSIDE)));
+    CHECK(deliver_of(2, 1, number(GRIMHOLDI_ANSWER_OUTSIDE)));
 }
 
 /* Runs a transaction to (5, 1); its result is still to come. */
@@ -922,7 +930,8 @@ static void run(uint32_t pid, uint32_t transfer, size_t length)
 
     configured_hub(4, 3);
     CHECK(grimholdi_start_split(area, area_len, 0, pid, transfer, 0, 0, 5, 1,
-                                payload, length).number == GRIMHOLDI_DONE);
+                                payload, length).number
+          == GRIMHOLDI_ANSWER_DONE);
     CHECK(launch().pid == pid);
 }
 
@@ -934,30 +943,30 @@ static void results_that_suit(const char *taken)
 
     for (i = 0; i < sizeof results; i++)
         CHECK(deliver_of(results[i], 0,
-                         taken[i] == '1' ? none(GRIMHOLDI_DONE)
-                                         : number(GRIMHOLDI_NOT_NOW)));
+                         taken[i] == '1' ? none(GRIMHOLDI_ANSWER_DONE)
+                                         : number(GRIMHOLDI_ANSWER_NOT_NOW)));
 }
 
 static void deliver_reasons(void)
 {
     new_hub(4, 3);
     deliver_numbers();
-    CHECK(deliver_of(10, 0, number(GRIMHOLDI_SILENT)));
+    CHECK(deliver_of(10, 0, number(GRIMHOLDI_ANSWER_SILENT)));
     configured_hub(4, 3);
     deliver_numbers();
     results_that_suit("000000"); /* nothing runs */
     run(GRIMHOLDI_PID_IN, GRIMHOLDI_TRANSFER_BULK, 0);
     deliver_numbers();
     results_that_suit("101111");
-    CHECK(deliver_of(3, 64, none(GRIMHOLDI_DONE)));
+    CHECK(deliver_of(3, 64, none(GRIMHOLDI_ANSWER_DONE)));
     run(GRIMHOLDI_PID_OUT, GRIMHOLDI_TRANSFER_BULK, 3);
     results_that_suit("110101");
-    CHECK(deliver_of(11, 64, number(GRIMHOLDI_NOT_NOW)));
+    CHECK(deliver_of(11, 64, number(GRIMHOLDI_ANSWER_NOT_NOW)));
     run(GRIMHOLDI_PID_SETUP, GRIMHOLDI_TRANSFER_CONTROL, 8);
     results_that_suit("110000");
 
     /* Thrown away, whatever it is. */
-    CHECK(reset_tt_from(0) == GRIMHOLDI_DONE);
+    CHECK(reset_tt_from(0) == GRIMHOLDI_ANSWER_DONE);
     deliver_numbers();
     results_that_suit("111111");
 }
@@ -965,14 +974,14 @@ static void deliver_reasons(void)
 /* test_rules.c has the events of each state. */
 static void line_event_reasons(void)
 {
-    const why outside = number(GRIMHOLDI_OUTSIDE);
+    const why outside = number(GRIMHOLDI_ANSWER_OUTSIDE);
     uint32_t event;
 
     new_hub(4, 3);
     CHECK(event_of(8, 1, outside));
     CHECK(event_of(6, 5, outside));
     for (event = 0; event < 8; event++)
-        CHECK(event_of(event, 1, number(GRIMHOLDI_NOT_NOW)));
+        CHECK(event_of(event, 1, number(GRIMHOLDI_ANSWER_NOT_NOW)));
     configured_hub(4, 3);
     CHECK(event_of(8, 1, outside));
     CHECK(event_of(256 + 6, 1, outside));
@@ -981,27 +990,27 @@ static void line_event_reasons(void)
     CHECK(event_of(6, 5, outside));
     CHECK(event_of(6, 256 + 1, outside));
     CHECK(event_of(6, FAR_NUMBER, outside));
-    CHECK(event_of(0, 4, number(GRIMHOLDI_NOT_NOW)));
-    CHECK(set_feature(GRIMHOLDI_PORT_POWER, 4) == GRIMHOLDI_DONE);
-    CHECK(event_of(0, 4, none(GRIMHOLDI_DONE)));
-    CHECK(event_of(0, 3, number(GRIMHOLDI_NOT_NOW)));
-    CHECK(event_of(6, 4, none(GRIMHOLDI_DONE)));
-    CHECK(event_of(7, 4, none(GRIMHOLDI_DONE)));
+    CHECK(event_of(0, 4, number(GRIMHOLDI_ANSWER_NOT_NOW)));
+    CHECK(set_feature(GRIMHOLDI_PORT_POWER, 4) == GRIMHOLDI_ANSWER_DONE);
+    CHECK(event_of(0, 4, none(GRIMHOLDI_ANSWER_DONE)));
+    CHECK(event_of(0, 3, number(GRIMHOLDI_ANSWER_NOT_NOW)));
+    CHECK(event_of(6, 4, none(GRIMHOLDI_ANSWER_DONE)));
+    CHECK(event_of(7, 4, none(GRIMHOLDI_ANSWER_DONE)));
 }
 
 /* Neither refuses anything but an area. */
 static void tick_and_bus_reset_reasons(void)
 {
     new_hub(4, 3);
-    CHECK(tick_of(none(GRIMHOLDI_DONE)));
-    CHECK(bus_reset_of(none(GRIMHOLDI_DONE)));
+    CHECK(tick_of(none(GRIMHOLDI_ANSWER_DONE)));
+    CHECK(bus_reset_of(none(GRIMHOLDI_ANSWER_DONE)));
     run(GRIMHOLDI_PID_IN, GRIMHOLDI_TRANSFER_BULK, 0);
-    CHECK(set_feature(GRIMHOLDI_PORT_POWER, 1) == GRIMHOLDI_DONE);
-    CHECK(event(GRIMHOLDI_EVENT_ATTACH_LOW, 1) == GRIMHOLDI_DONE);
-    CHECK(set_feature(GRIMHOLDI_PORT_RESET, 1) == GRIMHOLDI_DONE);
+    CHECK(set_feature(GRIMHOLDI_PORT_POWER, 1) == GRIMHOLDI_ANSWER_DONE);
+    CHECK(event(GRIMHOLDI_EVENT_ATTACH_LOW, 1) == GRIMHOLDI_ANSWER_DONE);
+    CHECK(set_feature(GRIMHOLDI_PORT_RESET, 1) == GRIMHOLDI_ANSWER_DONE);
     ticks(14);
-    CHECK(tick_of(none(GRIMHOLDI_DONE)));
-    CHECK(bus_reset_of(none(GRIMHOLDI_DONE)));
+    CHECK(tick_of(none(GRIMHOLDI_ANSWER_DONE)));
+    CHECK(bus_reset_of(none(GRIMHOLDI_ANSWER_DONE)));
 }
 
 /* Areas; test_area.c has more that are refused, and (NULL, 0). */
@@ -1010,7 +1019,7 @@ static void tick_and_bus_reset_reasons(void)
 static void all_outside(void)
 {
     static const uint8_t setup[8] = {0xFF, 0xFF, 1, 1, 1, 1, 1, 1};
-    const why outside = number(GRIMHOLDI_OUTSIDE);
+    const why outside = number(GRIMHOLDI_ANSWER_OUTSIDE);
 
     CHECK(control_of(0, setup, 8, 64, outside));
     CHECK(control_of(2, setup, 7, 0, outside));
@@ -1078,7 +1087,7 @@ static void constant_area(void)
     reason = grimholdi_why_launch(fixed, length, 64);
     CHECK(is_reason(reason, GRIMHOLDI_WHY_NONE, 0));
     reason = grimholdi_why_deliver(fixed, length, 10, NULL, 0);
-    CHECK(is_reason(reason, GRIMHOLDI_WHY_NUMBER, GRIMHOLDI_NOT_NOW));
+    CHECK(is_reason(reason, GRIMHOLDI_WHY_NUMBER, GRIMHOLDI_ANSWER_NOT_NOW));
     reason = grimholdi_why_line_event(fixed, length, 6, 1);
     CHECK(is_reason(reason, GRIMHOLDI_WHY_NONE, 0));
     CHECK(is_reason(grimholdi_why_tick(fixed, length),
@@ -1095,7 +1104,7 @@ static void long_reply_spaces(void)
     size_t i;
 
     configured_hub(4, 3);
-    CHECK(start_in(5, 1) == GRIMHOLDI_DONE);
+    CHECK(start_in(5, 1) == GRIMHOLDI_ANSWER_DONE);
     for (i = 0; i < sizeof lengths / sizeof *lengths; i++) {
         CHECK(is_reason(grimholdi_why_control(area, area_len, 0, setup, 8,
                                               lengths[i]),

@@ -13,7 +13,7 @@ static uint8_t answers[GRIMHOLDI_ANSWERS_LENGTH];
 static uint8_t keep(void *context, const uint8_t *block)
 {
     std::memcpy(context, block, GRIMHOLDI_BLOCK_LENGTH);
-    return GRIMHOLDI_DONE;
+    return GRIMHOLDI_ANSWER_DONE;
 }
 
 // Records a tick and a poll, and replays them.
@@ -34,10 +34,11 @@ static void record_and_replay(uint8_t *area, size_t length)
     const grimholdi_replayed replayed = grimholdi_replay_block(
         area, length, 1, recording, sizeof recording, answers, sizeof answers);
 
-    CHECK(replayed.number == GRIMHOLDI_DONE);
+    CHECK(replayed.number == GRIMHOLDI_ANSWER_DONE);
     CHECK(replayed.refusal == GRIMHOLDI_REFUSED_NOT);
     CHECK(replayed.length == 20);
-    CHECK(answers[0] == GRIMHOLDI_DONE && answers[10] == GRIMHOLDI_SILENT);
+    CHECK(answers[0] == GRIMHOLDI_ANSWER_DONE && answers[10]
+          == GRIMHOLDI_ANSWER_SILENT);
 }
 
 int main()
@@ -61,16 +62,17 @@ int main()
     CHECK(offsetof(grimholdi_replayed, stored) == 4);
     CHECK(offsetof(grimholdi_replayed, length) == 16);
     CHECK(length == sizeof area);
-    CHECK(grimholdi_new(area, length, 7, 4, 0, 0, 0).number == GRIMHOLDI_DONE);
+    CHECK(grimholdi_new(area, length, 7, 4, 0, 0, 0).number
+          == GRIMHOLDI_ANSWER_DONE);
     CHECK(grimholdi_control(area, length, GRIMHOLDI_LANE_MAX, configure,
                             sizeof configure, reply, sizeof reply).number
-          == GRIMHOLDI_DONE);
+          == GRIMHOLDI_ANSWER_DONE);
     CHECK(grimholdi_poll(area, length, GRIMHOLDI_LANE_MAX, reply,
-                         sizeof reply).number == GRIMHOLDI_NAK);
+                         sizeof reply).number == GRIMHOLDI_ANSWER_NAK);
     CHECK(grimholdi_start_split(area, length, GRIMHOLDI_LANE_MAX,
                                 GRIMHOLDI_PID_IN, GRIMHOLDI_TRANSFER_BULK,
                                 0, 0, 1, 1, nullptr, 0).number
-          == GRIMHOLDI_DONE);
+          == GRIMHOLDI_ANSWER_DONE);
 
     const grimholdi_reason reason = grimholdi_why_start_split(
         area, length, GRIMHOLDI_LANE_MAX, GRIMHOLDI_PID_IN,
@@ -80,14 +82,14 @@ int main()
     CHECK(grimholdi_launch(area, length, reply, sizeof reply).lane
           == GRIMHOLDI_LANE_MAX);
     CHECK(grimholdi_deliver(area, length, GRIMHOLDI_RESULT_DATA0, reply,
-                            3).number == GRIMHOLDI_DONE);
+                            3).number == GRIMHOLDI_ANSWER_DONE);
     CHECK(grimholdi_complete_split(area, length, GRIMHOLDI_LANE_MAX, 1, 1,
                                    GRIMHOLDI_DIRECTION_IN, reply,
                                    sizeof reply).length == 3);
     CHECK(grimholdi_line_event(area, length, GRIMHOLDI_EVENT_WAKE, 1).number
-          == GRIMHOLDI_NOT_NOW);
-    CHECK(grimholdi_tick(area, length).number == GRIMHOLDI_DONE);
-    CHECK(grimholdi_bus_reset(area, length).number == GRIMHOLDI_DONE);
+          == GRIMHOLDI_ANSWER_NOT_NOW);
+    CHECK(grimholdi_tick(area, length).number == GRIMHOLDI_ANSWER_DONE);
+    CHECK(grimholdi_bus_reset(area, length).number == GRIMHOLDI_ANSWER_DONE);
     record_and_replay(area, length);
     return check_summary("headers in C++");
 }

@@ -194,7 +194,7 @@ static void check_naming(uint8_t type, uint8_t code, uint16_t value,
     for (port = 1; port <= area[HEAD_PORTS]; port++)
         due += names_port(&c, port) ? port : 0;
     CHECK(due == 0 || due == index);
-    CHECK((make(&c).number == GRIMHOLDI_STALL) == (due == 0));
+    CHECK((make(&c).number == GRIMHOLDI_ANSWER_STALL) == (due == 0));
 }
 
 static void check_naming_of(uint8_t type, uint8_t code, uint16_t value)

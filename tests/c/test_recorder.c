@@ -17,9 +17,9 @@ static uint8_t keep(void *context, const uint8_t *block)
 {
     CHECK(context == &kept);
     if (++kept.asked == kept.refused || kept.count == KEPT_MAX)
-        return GRIMHOLDI_NO_SPACE;
+        return GRIMHOLDI_ANSWER_NO_SPACE;
     memcpy(kept.blocks[kept.count++], block, BLOCK);
-    return GRIMHOLDI_DONE;
+    return GRIMHOLDI_ANSWER_DONE;
 }
 
 static void start(uint32_t refused)
@@ -167,7 +167,7 @@ static void last_block(void)
     start(0);
     recorder.number = 65534;
     CHECK(grimholdi_block_start(recorder.block, BLOCK, 65534)
-          == GRIMHOLDI_DONE);
+          == GRIMHOLDI_ANSWER_DONE);
     add_ticks(506 + 506);
     CHECK(kept.count == 1 && recorder.number == 65535);
     add_ticks(1);
@@ -196,7 +196,7 @@ enum { LONG_SETUP = 496, LONG_START = 476, LONG_DELIVERY = 500 };
 /* The call is refused and leaves all as it was. */
 static int is_refused(grimholdi_answer answer)
 {
-    return answer.number == GRIMHOLDI_OUTSIDE && is_bare(answer)
+    return answer.number == GRIMHOLDI_ANSWER_OUTSIDE && is_bare(answer)
            && area_is_saved() && reply_is_saved();
 }
 
@@ -264,7 +264,7 @@ static void left_out(void)
     check_left_out();
     configured_hub(4, 3);
     check_left_out();
-    CHECK(start_in(5, 1) == GRIMHOLDI_DONE);
+    CHECK(start_in(5, 1) == GRIMHOLDI_ANSWER_DONE);
     CHECK(launches(0, 5));
     check_left_out();
     free_hub();

@@ -38,7 +38,8 @@ static uint8_t add(const uint8_t *record, size_t length)
     if (length > 0)
         memcpy(copy, record, length);
     answer = grimholdi_block_add(block, BLOCK, copy, length);
-    CHECK((memcmp(block, before, BLOCK) == 0) == (answer != GRIMHOLDI_DONE));
+    CHECK((memcmp(block, before, BLOCK) == 0)
+          == (answer != GRIMHOLDI_ANSWER_DONE));
     free(copy);
     return answer;
 }
@@ -48,16 +49,16 @@ static void check_taken(const uint8_t *bytes, size_t length)
 {
     uint8_t changed[BLOCK] = {0};
 
-    CHECK(add(bytes, length) == GRIMHOLDI_DONE);
-    CHECK(add(bytes, length - 1) == GRIMHOLDI_OUTSIDE);
+    CHECK(add(bytes, length) == GRIMHOLDI_ANSWER_DONE);
+    CHECK(add(bytes, length - 1) == GRIMHOLDI_ANSWER_OUTSIDE);
     memcpy(changed, bytes, length);
-    CHECK(add(changed, length + 1) == GRIMHOLDI_OUTSIDE);
+    CHECK(add(changed, length + 1) == GRIMHOLDI_ANSWER_OUTSIDE);
     changed[length] = 8; /* a further record */
-    CHECK(add(changed, length + 1) == GRIMHOLDI_OUTSIDE);
+    CHECK(add(changed, length + 1) == GRIMHOLDI_ANSWER_OUTSIDE);
     changed[0] = 0;
-    CHECK(add(changed, length) == GRIMHOLDI_OUTSIDE);
+    CHECK(add(changed, length) == GRIMHOLDI_ANSWER_OUTSIDE);
     changed[0] = 10;
-    CHECK(add(changed, length) == GRIMHOLDI_OUTSIDE);
+    CHECK(add(changed, length) == GRIMHOLDI_ANSWER_OUTSIDE);
 }
 
 /* A call that builds a record in `space` writes these bytes and no others. */
@@ -202,8 +203,8 @@ static void long_payloads(void)
     CHECK(grimholdi_record_deliver(space, space_len, 3, payload, 65535)
           == 7 + 65535);
     CHECK(memcmp(space, "\x06\x03\x00\x00\x00\xFF\xFF", 7) == 0);
-    CHECK(add(space, 7 + 65535) == GRIMHOLDI_NAK);
-    CHECK(add(space, 7 + 65534) == GRIMHOLDI_OUTSIDE);
+    CHECK(add(space, 7 + 65535) == GRIMHOLDI_ANSWER_NAK);
+    CHECK(add(space, 7 + 65534) == GRIMHOLDI_ANSWER_OUTSIDE);
     lend(65536 + 31);
     CHECK(grimholdi_record_deliver(space, space_len, 3, payload, 65536) == 0);
     CHECK(grimholdi_record_control(space, space_len, 0, payload, 65536, 64)
@@ -219,8 +220,8 @@ static int check_read(const uint8_t *bytes, size_t length)
 {
     const int is_record = length > 0 && read_record(bytes, length) == length;
 
-    CHECK(add(bytes, length) == (is_record ? GRIMHOLDI_DONE
-                                           : GRIMHOLDI_OUTSIDE));
+    CHECK(add(bytes, length) == (is_record ? GRIMHOLDI_ANSWER_DONE
+                                           : GRIMHOLDI_ANSWER_OUTSIDE));
     return is_record;
 }
 

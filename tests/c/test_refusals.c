@@ -118,113 +118,113 @@ static void control_refusals(void)
     size_t i;
 
     configured_hub(4, 3);
-    CHECK(start_in(5, 1) == GRIMHOLDI_DONE);
+    CHECK(start_in(5, 1) == GRIMHOLDI_ANSWER_DONE);
     for (i = 0; i < sizeof stalled / sizeof *stalled; i++)
-        LEAVES_ALL(GRIMHOLDI_STALL,
+        LEAVES_ALL(GRIMHOLDI_ANSWER_STALL,
                 request(stalled[i].type, stalled[i].code, stalled[i].value,
                         stalled[i].index, stalled[i].length));
-    LEAVES_ALL(GRIMHOLDI_OUTSIDE, setup_of(0, 64));
-    LEAVES_ALL(GRIMHOLDI_OUTSIDE, setup_of(7, 64));
-    LEAVES_ALL(GRIMHOLDI_OUTSIDE, setup_of(9, 64));
-    LEAVES_ALL(GRIMHOLDI_NO_SPACE, setup_of(8, 63));
-    LEAVES_ALL(GRIMHOLDI_NO_SPACE, setup_of(8, 0));
-    LEAVES_ALL(GRIMHOLDI_OUTSIDE, setup_of(7, 0));
+    LEAVES_ALL(GRIMHOLDI_ANSWER_OUTSIDE, setup_of(0, 64));
+    LEAVES_ALL(GRIMHOLDI_ANSWER_OUTSIDE, setup_of(7, 64));
+    LEAVES_ALL(GRIMHOLDI_ANSWER_OUTSIDE, setup_of(9, 64));
+    LEAVES_ALL(GRIMHOLDI_ANSWER_NO_SPACE, setup_of(8, 63));
+    LEAVES_ALL(GRIMHOLDI_ANSWER_NO_SPACE, setup_of(8, 0));
+    LEAVES_ALL(GRIMHOLDI_ANSWER_OUTSIDE, setup_of(7, 0));
 
     new_hub(4, 3);
     for (i = 0; i < sizeof configured_only / sizeof *configured_only; i++)
-        LEAVES_ALL(GRIMHOLDI_STALL,
+        LEAVES_ALL(GRIMHOLDI_ANSWER_STALL,
                 request(configured_only[i].type, configured_only[i].code,
                         configured_only[i].value, configured_only[i].index,
                         configured_only[i].length));
-    LEAVES_ALL(GRIMHOLDI_NO_SPACE, setup_of(8, 63));
+    LEAVES_ALL(GRIMHOLDI_ANSWER_NO_SPACE, setup_of(8, 63));
 }
 
 static void poll_refusals(void)
 {
     new_hub(4, 3);
-    LEAVES_ALL(GRIMHOLDI_SILENT, poll());
-    LEAVES_ALL(GRIMHOLDI_NO_SPACE, poll_in(0, 63));
-    LEAVES_ALL(GRIMHOLDI_NO_SPACE, poll_in(0, 0));
+    LEAVES_ALL(GRIMHOLDI_ANSWER_SILENT, poll());
+    LEAVES_ALL(GRIMHOLDI_ANSWER_NO_SPACE, poll_in(0, 63));
+    LEAVES_ALL(GRIMHOLDI_ANSWER_NO_SPACE, poll_in(0, 0));
     configured_hub(4, 3);
-    LEAVES_ALL(GRIMHOLDI_NAK, poll());
-    LEAVES_ALL(GRIMHOLDI_NO_SPACE, poll_in(0, 63));
+    LEAVES_ALL(GRIMHOLDI_ANSWER_NAK, poll());
+    LEAVES_ALL(GRIMHOLDI_ANSWER_NO_SPACE, poll_in(0, 63));
 }
 
 static void start_split_numbers(void)
 {
-    LEAVES_ALL(GRIMHOLDI_OUTSIDE, start(0, 2, 0, 0, 5, 1, 0));
-    LEAVES_ALL(GRIMHOLDI_OUTSIDE, start(2, 2, 0, 0, 5, 1, 0));
-    LEAVES_ALL(GRIMHOLDI_OUTSIDE, start(265, 2, 0, 0, 5, 1, 0));
-    LEAVES_ALL(GRIMHOLDI_OUTSIDE, start(FAR_NUMBER, 2, 0, 0, 5, 1, 0));
-    LEAVES_ALL(GRIMHOLDI_OUTSIDE, start(9, 1, 0, 0, 5, 1, 0));
-    LEAVES_ALL(GRIMHOLDI_OUTSIDE, start(9, 3, 0, 0, 5, 1, 0));
-    LEAVES_ALL(GRIMHOLDI_OUTSIDE, start(9, 256, 0, 0, 5, 1, 0));
-    LEAVES_ALL(GRIMHOLDI_OUTSIDE, start(9, FAR_NUMBER, 0, 0, 5, 1, 0));
-    LEAVES_ALL(GRIMHOLDI_OUTSIDE, start(9, 2, 2, 0, 5, 1, 0));
-    LEAVES_ALL(GRIMHOLDI_OUTSIDE, start(9, 2, FAR_NUMBER, 0, 5, 1, 0));
-    LEAVES_ALL(GRIMHOLDI_OUTSIDE, start(9, 2, 0, 2, 5, 1, 0));
-    LEAVES_ALL(GRIMHOLDI_OUTSIDE, start(9, 2, 0, FAR_NUMBER, 5, 1, 0));
-    LEAVES_ALL(GRIMHOLDI_OUTSIDE, start(9, 2, 0, 0, 128, 1, 0));
-    LEAVES_ALL(GRIMHOLDI_OUTSIDE, start(9, 2, 0, 0, 256, 1, 0));
-    LEAVES_ALL(GRIMHOLDI_OUTSIDE, start(9, 2, 0, 0, FAR_NUMBER, 1, 0));
-    LEAVES_ALL(GRIMHOLDI_OUTSIDE, start(9, 2, 0, 0, 5, 16, 0));
-    LEAVES_ALL(GRIMHOLDI_OUTSIDE, start(9, 2, 0, 0, 5, FAR_NUMBER, 0));
-    LEAVES_ALL(GRIMHOLDI_OUTSIDE, start(9, 2, 0, 0, 5, 1, 1));
-    LEAVES_ALL(GRIMHOLDI_OUTSIDE, start(1, 2, 0, 0, 5, 1, 65));
-    LEAVES_ALL(GRIMHOLDI_OUTSIDE, start(1, 2, 0, 0, 5, 1, 256));
-    LEAVES_ALL(GRIMHOLDI_OUTSIDE, start(13, 0, 0, 0, 5, 1, 7));
-    LEAVES_ALL(GRIMHOLDI_OUTSIDE, start(13, 0, 0, 0, 5, 1, 9));
-    LEAVES_ALL(GRIMHOLDI_OUTSIDE, start(13, 0, 0, 0, 5, 1, 264));
-    LEAVES_ALL(GRIMHOLDI_OUTSIDE, start(13, 2, 0, 0, 5, 1, 8));
+    LEAVES_ALL(GRIMHOLDI_ANSWER_OUTSIDE, start(0, 2, 0, 0, 5, 1, 0));
+    LEAVES_ALL(GRIMHOLDI_ANSWER_OUTSIDE, start(2, 2, 0, 0, 5, 1, 0));
+    LEAVES_ALL(GRIMHOLDI_ANSWER_OUTSIDE, start(265, 2, 0, 0, 5, 1, 0));
+    LEAVES_ALL(GRIMHOLDI_ANSWER_OUTSIDE, start(FAR_NUMBER, 2, 0, 0, 5, 1, 0));
+    LEAVES_ALL(GRIMHOLDI_ANSWER_OUTSIDE, start(9, 1, 0, 0, 5, 1, 0));
+    LEAVES_ALL(GRIMHOLDI_ANSWER_OUTSIDE, start(9, 3, 0, 0, 5, 1, 0));
+    LEAVES_ALL(GRIMHOLDI_ANSWER_OUTSIDE, start(9, 256, 0, 0, 5, 1, 0));
+    LEAVES_ALL(GRIMHOLDI_ANSWER_OUTSIDE, start(9, FAR_NUMBER, 0, 0, 5, 1, 0));
+    LEAVES_ALL(GRIMHOLDI_ANSWER_OUTSIDE, start(9, 2, 2, 0, 5, 1, 0));
+    LEAVES_ALL(GRIMHOLDI_ANSWER_OUTSIDE, start(9, 2, FAR_NUMBER, 0, 5, 1, 0));
+    LEAVES_ALL(GRIMHOLDI_ANSWER_OUTSIDE, start(9, 2, 0, 2, 5, 1, 0));
+    LEAVES_ALL(GRIMHOLDI_ANSWER_OUTSIDE, start(9, 2, 0, FAR_NUMBER, 5, 1, 0));
+    LEAVES_ALL(GRIMHOLDI_ANSWER_OUTSIDE, start(9, 2, 0, 0, 128, 1, 0));
+    LEAVES_ALL(GRIMHOLDI_ANSWER_OUTSIDE, start(9, 2, 0, 0, 256, 1, 0));
+    LEAVES_ALL(GRIMHOLDI_ANSWER_OUTSIDE, start(9, 2, 0, 0, FAR_NUMBER, 1, 0));
+    LEAVES_ALL(GRIMHOLDI_ANSWER_OUTSIDE, start(9, 2, 0, 0, 5, 16, 0));
+    LEAVES_ALL(GRIMHOLDI_ANSWER_OUTSIDE, start(9, 2, 0, 0, 5, FAR_NUMBER, 0));
+    LEAVES_ALL(GRIMHOLDI_ANSWER_OUTSIDE, start(9, 2, 0, 0, 5, 1, 1));
+    LEAVES_ALL(GRIMHOLDI_ANSWER_OUTSIDE, start(1, 2, 0, 0, 5, 1, 65));
+    LEAVES_ALL(GRIMHOLDI_ANSWER_OUTSIDE, start(1, 2, 0, 0, 5, 1, 256));
+    LEAVES_ALL(GRIMHOLDI_ANSWER_OUTSIDE, start(13, 0, 0, 0, 5, 1, 7));
+    LEAVES_ALL(GRIMHOLDI_ANSWER_OUTSIDE, start(13, 0, 0, 0, 5, 1, 9));
+    LEAVES_ALL(GRIMHOLDI_ANSWER_OUTSIDE, start(13, 0, 0, 0, 5, 1, 264));
+    LEAVES_ALL(GRIMHOLDI_ANSWER_OUTSIDE, start(13, 2, 0, 0, 5, 1, 8));
 }
 
 static void start_split_refusals(void)
 {
     new_hub(4, 3);
     start_split_numbers();
-    LEAVES_ALL(GRIMHOLDI_SILENT, start(9, 2, 0, 0, 5, 1, 0));
+    LEAVES_ALL(GRIMHOLDI_ANSWER_SILENT, start(9, 2, 0, 0, 5, 1, 0));
     configured_hub(4, 3);
     start_split_numbers();
-    CHECK(start(1, 2, 0, 0, 127, 15, 64).number == GRIMHOLDI_DONE);
-    CHECK(start(1, 0, 1, 1, 0, 0, 0).number == GRIMHOLDI_DONE);
+    CHECK(start(1, 2, 0, 0, 127, 15, 64).number == GRIMHOLDI_ANSWER_DONE);
+    CHECK(start(1, 0, 1, 1, 0, 0, 0).number == GRIMHOLDI_ANSWER_DONE);
     start_split_numbers();
-    LEAVES_ALL(GRIMHOLDI_NAK, start(9, 2, 0, 0, 5, 1, 0));
-    LEAVES_ALL(GRIMHOLDI_DONE, start(1, 2, 0, 0, 127, 15, 3));
+    LEAVES_ALL(GRIMHOLDI_ANSWER_NAK, start(9, 2, 0, 0, 5, 1, 0));
+    LEAVES_ALL(GRIMHOLDI_ANSWER_DONE, start(1, 2, 0, 0, 127, 15, 3));
 }
 
 static void complete_split_refusals(void)
 {
     new_hub(4, 3);
-    LEAVES_ALL(GRIMHOLDI_OUTSIDE, complete_in(128, 1, 1, 0));
-    LEAVES_ALL(GRIMHOLDI_NO_SPACE, complete_in(5, 1, 1, 63));
-    LEAVES_ALL(GRIMHOLDI_NO_SPACE, complete_in(5, 1, 1, 0));
-    LEAVES_ALL(GRIMHOLDI_SILENT, complete_in(5, 1, 1, 64));
+    LEAVES_ALL(GRIMHOLDI_ANSWER_OUTSIDE, complete_in(128, 1, 1, 0));
+    LEAVES_ALL(GRIMHOLDI_ANSWER_NO_SPACE, complete_in(5, 1, 1, 63));
+    LEAVES_ALL(GRIMHOLDI_ANSWER_NO_SPACE, complete_in(5, 1, 1, 0));
+    LEAVES_ALL(GRIMHOLDI_ANSWER_SILENT, complete_in(5, 1, 1, 64));
     configured_hub(4, 3);
-    LEAVES_ALL(GRIMHOLDI_OUTSIDE, complete_in(128, 1, 1, 64));
-    LEAVES_ALL(GRIMHOLDI_OUTSIDE, complete_in(FAR_NUMBER, 1, 1, 64));
-    LEAVES_ALL(GRIMHOLDI_OUTSIDE, complete_in(5, 16, 1, 64));
-    LEAVES_ALL(GRIMHOLDI_OUTSIDE, complete_in(5, FAR_NUMBER, 1, 64));
-    LEAVES_ALL(GRIMHOLDI_OUTSIDE, complete_in(5, 1, 2, 64));
-    LEAVES_ALL(GRIMHOLDI_OUTSIDE, complete_in(5, 1, FAR_NUMBER, 63));
-    LEAVES_ALL(GRIMHOLDI_STALL, complete_in(5, 1, 1, 64));
-    CHECK(start_in(5, 1) == GRIMHOLDI_DONE);
-    LEAVES_ALL(GRIMHOLDI_NYET, complete_in(5, 1, 1, 64));
-    LEAVES_ALL(GRIMHOLDI_NO_SPACE, complete_in(5, 1, 1, 63));
-    LEAVES_ALL(GRIMHOLDI_STALL, complete_in(5, 1, 0, 64));
+    LEAVES_ALL(GRIMHOLDI_ANSWER_OUTSIDE, complete_in(128, 1, 1, 64));
+    LEAVES_ALL(GRIMHOLDI_ANSWER_OUTSIDE, complete_in(FAR_NUMBER, 1, 1, 64));
+    LEAVES_ALL(GRIMHOLDI_ANSWER_OUTSIDE, complete_in(5, 16, 1, 64));
+    LEAVES_ALL(GRIMHOLDI_ANSWER_OUTSIDE, complete_in(5, FAR_NUMBER, 1, 64));
+    LEAVES_ALL(GRIMHOLDI_ANSWER_OUTSIDE, complete_in(5, 1, 2, 64));
+    LEAVES_ALL(GRIMHOLDI_ANSWER_OUTSIDE, complete_in(5, 1, FAR_NUMBER, 63));
+    LEAVES_ALL(GRIMHOLDI_ANSWER_STALL, complete_in(5, 1, 1, 64));
+    CHECK(start_in(5, 1) == GRIMHOLDI_ANSWER_DONE);
+    LEAVES_ALL(GRIMHOLDI_ANSWER_NYET, complete_in(5, 1, 1, 64));
+    LEAVES_ALL(GRIMHOLDI_ANSWER_NO_SPACE, complete_in(5, 1, 1, 63));
+    LEAVES_ALL(GRIMHOLDI_ANSWER_STALL, complete_in(5, 1, 0, 64));
 }
 
 static void launch_refusals(void)
 {
     new_hub(4, 3);
-    LEAVES_ALL(GRIMHOLDI_NO_SPACE, launch_into(63));
-    LEAVES_ALL(GRIMHOLDI_SILENT, launch());
+    LEAVES_ALL(GRIMHOLDI_ANSWER_NO_SPACE, launch_into(63));
+    LEAVES_ALL(GRIMHOLDI_ANSWER_SILENT, launch());
     configured_hub(4, 3);
-    LEAVES_ALL(GRIMHOLDI_NAK, launch());
-    CHECK(start_in(5, 1) == GRIMHOLDI_DONE);
-    LEAVES_ALL(GRIMHOLDI_NO_SPACE, launch_into(0));
-    CHECK(launch().number == GRIMHOLDI_DATA);
-    LEAVES_ALL(GRIMHOLDI_NOT_NOW, launch());
-    LEAVES_ALL(GRIMHOLDI_NO_SPACE, launch_into(63));
+    LEAVES_ALL(GRIMHOLDI_ANSWER_NAK, launch());
+    CHECK(start_in(5, 1) == GRIMHOLDI_ANSWER_DONE);
+    LEAVES_ALL(GRIMHOLDI_ANSWER_NO_SPACE, launch_into(0));
+    CHECK(launch().number == GRIMHOLDI_ANSWER_DATA);
+    LEAVES_ALL(GRIMHOLDI_ANSWER_NOT_NOW, launch());
+    LEAVES_ALL(GRIMHOLDI_ANSWER_NO_SPACE, launch_into(63));
 }
 
 static void deliver_numbers(void)
@@ -232,17 +232,17 @@ static void deliver_numbers(void)
     static const uint32_t without_data[] = {0, 2, 10, 14};
     size_t i;
 
-    LEAVES_ALL(GRIMHOLDI_OUTSIDE, result(1, 0));
-    LEAVES_ALL(GRIMHOLDI_OUTSIDE, result(4, 0));
-    LEAVES_ALL(GRIMHOLDI_OUTSIDE, result(9, 0));
-    LEAVES_ALL(GRIMHOLDI_OUTSIDE, result(256, 0));
-    LEAVES_ALL(GRIMHOLDI_OUTSIDE, result(259, 0));
-    LEAVES_ALL(GRIMHOLDI_OUTSIDE, result(FAR_NUMBER, 0));
-    LEAVES_ALL(GRIMHOLDI_OUTSIDE, result(3, 65));
-    LEAVES_ALL(GRIMHOLDI_OUTSIDE, result(11, 256));
+    LEAVES_ALL(GRIMHOLDI_ANSWER_OUTSIDE, result(1, 0));
+    LEAVES_ALL(GRIMHOLDI_ANSWER_OUTSIDE, result(4, 0));
+    LEAVES_ALL(GRIMHOLDI_ANSWER_OUTSIDE, result(9, 0));
+    LEAVES_ALL(GRIMHOLDI_ANSWER_OUTSIDE, result(256, 0));
+    LEAVES_ALL(GRIMHOLDI_ANSWER_OUTSIDE, result(259, 0));
+    LEAVES_ALL(GRIMHOLDI_ANSWER_OUTSIDE, result(FAR_NUMBER, 0));
+    LEAVES_ALL(GRIMHOLDI_ANSWER_OUTSIDE, result(3, 65));
+    LEAVES_ALL(GRIMHOLDI_ANSWER_OUTSIDE, result(11, 256));
     for (i = 0; i < sizeof without_data / sizeof *without_data; i++) {
-        LEAVES_ALL(GRIMHOLDI_OUTSIDE, result(without_data[i], 1));
-        LEAVES_ALL(GRIMHOLDI_OUTSIDE, result(without_data[i], 256));
+        LEAVES_ALL(GRIMHOLDI_ANSWER_OUTSIDE, result(without_data[i], 1));
+        LEAVES_ALL(GRIMHOLDI_ANSWER_OUTSIDE, result(without_data[i], 256));
     }
 }
 
@@ -250,31 +250,31 @@ static void deliver_refusals(void)
 {
     new_hub(4, 3);
     deliver_numbers();
-    LEAVES_ALL(GRIMHOLDI_SILENT, result(10, 0));
+    LEAVES_ALL(GRIMHOLDI_ANSWER_SILENT, result(10, 0));
     configured_hub(4, 3);
     deliver_numbers();
-    LEAVES_ALL(GRIMHOLDI_NOT_NOW, result(10, 0));
+    LEAVES_ALL(GRIMHOLDI_ANSWER_NOT_NOW, result(10, 0));
 
-    CHECK(start_in(5, 1) == GRIMHOLDI_DONE);
-    CHECK(launch().number == GRIMHOLDI_DATA);
+    CHECK(start_in(5, 1) == GRIMHOLDI_ANSWER_DONE);
+    CHECK(launch().number == GRIMHOLDI_ANSWER_DATA);
     deliver_numbers();
-    LEAVES_ALL(GRIMHOLDI_NOT_NOW, result(2, 0));
-    CHECK(result(3, 64).number == GRIMHOLDI_DONE);
+    LEAVES_ALL(GRIMHOLDI_ANSWER_NOT_NOW, result(2, 0));
+    CHECK(result(3, 64).number == GRIMHOLDI_ANSWER_DONE);
 
-    CHECK(start_out(5, 1, none, 0) == GRIMHOLDI_DONE);
-    CHECK(launch().number == GRIMHOLDI_DATA);
-    LEAVES_ALL(GRIMHOLDI_NOT_NOW, result(3, 0));
-    LEAVES_ALL(GRIMHOLDI_NOT_NOW, result(11, 64));
-    CHECK(result(14, 0).number == GRIMHOLDI_DONE);
+    CHECK(start_out(5, 1, none, 0) == GRIMHOLDI_ANSWER_DONE);
+    CHECK(launch().number == GRIMHOLDI_ANSWER_DATA);
+    LEAVES_ALL(GRIMHOLDI_ANSWER_NOT_NOW, result(3, 0));
+    LEAVES_ALL(GRIMHOLDI_ANSWER_NOT_NOW, result(11, 64));
+    CHECK(result(14, 0).number == GRIMHOLDI_ANSWER_DONE);
 
     configured_hub(4, 3);
-    CHECK(start(13, 0, 0, 0, 5, 0, 8).number == GRIMHOLDI_DONE);
-    CHECK(launch().number == GRIMHOLDI_DATA);
-    LEAVES_ALL(GRIMHOLDI_NOT_NOW, result(3, 0));
-    LEAVES_ALL(GRIMHOLDI_NOT_NOW, result(11, 0));
-    LEAVES_ALL(GRIMHOLDI_NOT_NOW, result(10, 0));
-    LEAVES_ALL(GRIMHOLDI_NOT_NOW, result(14, 0));
-    CHECK(result(2, 0).number == GRIMHOLDI_DONE);
+    CHECK(start(13, 0, 0, 0, 5, 0, 8).number == GRIMHOLDI_ANSWER_DONE);
+    CHECK(launch().number == GRIMHOLDI_ANSWER_DATA);
+    LEAVES_ALL(GRIMHOLDI_ANSWER_NOT_NOW, result(3, 0));
+    LEAVES_ALL(GRIMHOLDI_ANSWER_NOT_NOW, result(11, 0));
+    LEAVES_ALL(GRIMHOLDI_ANSWER_NOT_NOW, result(10, 0));
+    LEAVES_ALL(GRIMHOLDI_ANSWER_NOT_NOW, result(14, 0));
+    CHECK(result(2, 0).number == GRIMHOLDI_ANSWER_DONE);
 }
 
 static grimholdi_answer line_event(uint32_t number, uint32_t port)
@@ -287,22 +287,22 @@ static void line_event_refusals(void)
     uint32_t number;
 
     new_hub(4, 3);
-    LEAVES_ALL(GRIMHOLDI_OUTSIDE, line_event(8, 1));
-    LEAVES_ALL(GRIMHOLDI_OUTSIDE, line_event(0, 0));
-    LEAVES_ALL(GRIMHOLDI_OUTSIDE, line_event(0, 5));
+    LEAVES_ALL(GRIMHOLDI_ANSWER_OUTSIDE, line_event(8, 1));
+    LEAVES_ALL(GRIMHOLDI_ANSWER_OUTSIDE, line_event(0, 0));
+    LEAVES_ALL(GRIMHOLDI_ANSWER_OUTSIDE, line_event(0, 5));
     for (number = 0; number < 8; number++)
-        LEAVES_ALL(GRIMHOLDI_NOT_NOW, line_event(number, 1));
+        LEAVES_ALL(GRIMHOLDI_ANSWER_NOT_NOW, line_event(number, 1));
     configured_hub(4, 3);
-    LEAVES_ALL(GRIMHOLDI_OUTSIDE, line_event(8, 1));
-    LEAVES_ALL(GRIMHOLDI_OUTSIDE, line_event(256 + 6, 1));
-    LEAVES_ALL(GRIMHOLDI_OUTSIDE, line_event(FAR_NUMBER, 1));
-    LEAVES_ALL(GRIMHOLDI_OUTSIDE, line_event(6, 0));
-    LEAVES_ALL(GRIMHOLDI_OUTSIDE, line_event(6, 5));
-    LEAVES_ALL(GRIMHOLDI_OUTSIDE, line_event(6, 256 + 1));
-    LEAVES_ALL(GRIMHOLDI_OUTSIDE, line_event(6, FAR_NUMBER));
+    LEAVES_ALL(GRIMHOLDI_ANSWER_OUTSIDE, line_event(8, 1));
+    LEAVES_ALL(GRIMHOLDI_ANSWER_OUTSIDE, line_event(256 + 6, 1));
+    LEAVES_ALL(GRIMHOLDI_ANSWER_OUTSIDE, line_event(FAR_NUMBER, 1));
+    LEAVES_ALL(GRIMHOLDI_ANSWER_OUTSIDE, line_event(6, 0));
+    LEAVES_ALL(GRIMHOLDI_ANSWER_OUTSIDE, line_event(6, 5));
+    LEAVES_ALL(GRIMHOLDI_ANSWER_OUTSIDE, line_event(6, 256 + 1));
+    LEAVES_ALL(GRIMHOLDI_ANSWER_OUTSIDE, line_event(6, FAR_NUMBER));
     for (number = 0; number < 6; number++)
-        LEAVES_ALL(GRIMHOLDI_NOT_NOW, line_event(number, 1));
-    LEAVES_ALL(GRIMHOLDI_DONE, line_event(7, 1));
+        LEAVES_ALL(GRIMHOLDI_ANSWER_NOT_NOW, line_event(number, 1));
+    LEAVES_ALL(GRIMHOLDI_ANSWER_DONE, line_event(7, 1));
 }
 
 /* Lanes: the four calls that name one. */
@@ -338,30 +338,30 @@ static void control_lanes(uint32_t lane)
     static const uint8_t wrong[8] = {0xFF, 0xFF, 0xFF, 0xFF,
                                      0xFF, 0xFF, 0xFF, 0xFF};
 
-    LEAVES_ALL(GRIMHOLDI_OUTSIDE, control_in(lane, configure, 8, 64));
-    LEAVES_ALL(GRIMHOLDI_OUTSIDE, control_in(lane, reset, 8, 64));
-    LEAVES_ALL(GRIMHOLDI_OUTSIDE, control_in(lane, describe, 8, 64));
-    LEAVES_ALL(GRIMHOLDI_OUTSIDE, control_in(lane, wrong, 8, 64));
-    LEAVES_ALL(GRIMHOLDI_OUTSIDE, control_in(lane, configure, 7, 64));
-    LEAVES_ALL(GRIMHOLDI_OUTSIDE, control_in(lane, configure, 9, 64));
-    LEAVES_ALL(GRIMHOLDI_OUTSIDE, control_in(lane, none, 0, 64));
-    LEAVES_ALL(GRIMHOLDI_OUTSIDE, control_in(lane, describe, 8, 63));
-    LEAVES_ALL(GRIMHOLDI_OUTSIDE, control_in(lane, wrong, 8, 0));
+    LEAVES_ALL(GRIMHOLDI_ANSWER_OUTSIDE, control_in(lane, configure, 8, 64));
+    LEAVES_ALL(GRIMHOLDI_ANSWER_OUTSIDE, control_in(lane, reset, 8, 64));
+    LEAVES_ALL(GRIMHOLDI_ANSWER_OUTSIDE, control_in(lane, describe, 8, 64));
+    LEAVES_ALL(GRIMHOLDI_ANSWER_OUTSIDE, control_in(lane, wrong, 8, 64));
+    LEAVES_ALL(GRIMHOLDI_ANSWER_OUTSIDE, control_in(lane, configure, 7, 64));
+    LEAVES_ALL(GRIMHOLDI_ANSWER_OUTSIDE, control_in(lane, configure, 9, 64));
+    LEAVES_ALL(GRIMHOLDI_ANSWER_OUTSIDE, control_in(lane, none, 0, 64));
+    LEAVES_ALL(GRIMHOLDI_ANSWER_OUTSIDE, control_in(lane, describe, 8, 63));
+    LEAVES_ALL(GRIMHOLDI_ANSWER_OUTSIDE, control_in(lane, wrong, 8, 0));
 }
 
 /* (5, 1) is held where anything is; (7, 1) never; 128 is no address. */
 static void other_lanes(uint32_t lane)
 {
-    LEAVES_ALL(GRIMHOLDI_OUTSIDE, poll_in(lane, 64));
-    LEAVES_ALL(GRIMHOLDI_OUTSIDE, poll_in(lane, 63));
-    LEAVES_ALL(GRIMHOLDI_OUTSIDE, poll_in(lane, 0));
-    LEAVES_ALL(GRIMHOLDI_OUTSIDE, start_in_lane(lane, 5));
-    LEAVES_ALL(GRIMHOLDI_OUTSIDE, start_in_lane(lane, 7));
-    LEAVES_ALL(GRIMHOLDI_OUTSIDE, start_in_lane(lane, 128));
-    LEAVES_ALL(GRIMHOLDI_OUTSIDE, complete_in_lane(lane, 5, 1, 64));
-    LEAVES_ALL(GRIMHOLDI_OUTSIDE, complete_in_lane(lane, 7, 1, 64));
-    LEAVES_ALL(GRIMHOLDI_OUTSIDE, complete_in_lane(lane, 5, 1, 63));
-    LEAVES_ALL(GRIMHOLDI_OUTSIDE, complete_in_lane(lane, 5, 2, 0));
+    LEAVES_ALL(GRIMHOLDI_ANSWER_OUTSIDE, poll_in(lane, 64));
+    LEAVES_ALL(GRIMHOLDI_ANSWER_OUTSIDE, poll_in(lane, 63));
+    LEAVES_ALL(GRIMHOLDI_ANSWER_OUTSIDE, poll_in(lane, 0));
+    LEAVES_ALL(GRIMHOLDI_ANSWER_OUTSIDE, start_in_lane(lane, 5));
+    LEAVES_ALL(GRIMHOLDI_ANSWER_OUTSIDE, start_in_lane(lane, 7));
+    LEAVES_ALL(GRIMHOLDI_ANSWER_OUTSIDE, start_in_lane(lane, 128));
+    LEAVES_ALL(GRIMHOLDI_ANSWER_OUTSIDE, complete_in_lane(lane, 5, 1, 64));
+    LEAVES_ALL(GRIMHOLDI_ANSWER_OUTSIDE, complete_in_lane(lane, 7, 1, 64));
+    LEAVES_ALL(GRIMHOLDI_ANSWER_OUTSIDE, complete_in_lane(lane, 5, 1, 63));
+    LEAVES_ALL(GRIMHOLDI_ANSWER_OUTSIDE, complete_in_lane(lane, 5, 2, 0));
 }
 
 static void lane_numbers(void)
@@ -382,13 +382,13 @@ static void busy_hub(void)
     uint32_t lane;
 
     configured_hub(4, 3);
-    CHECK(set_feature(GRIMHOLDI_PORT_POWER, 2) == GRIMHOLDI_DONE);
-    CHECK(event(GRIMHOLDI_EVENT_ATTACH_FULL, 2) == GRIMHOLDI_DONE);
+    CHECK(set_feature(GRIMHOLDI_PORT_POWER, 2) == GRIMHOLDI_ANSWER_DONE);
+    CHECK(event(GRIMHOLDI_EVENT_ATTACH_FULL, 2) == GRIMHOLDI_ANSWER_DONE);
     for (lane = 0; lane <= GRIMHOLDI_LANE_MAX; lane++) {
-        CHECK(start_in_from(lane, 5, 1) == GRIMHOLDI_DONE);
-        CHECK(launch().number == GRIMHOLDI_DATA);
+        CHECK(start_in_from(lane, 5, 1) == GRIMHOLDI_ANSWER_DONE);
+        CHECK(launch().number == GRIMHOLDI_ANSWER_DATA);
         CHECK(deliver(GRIMHOLDI_RESULT_DATA0, (const uint8_t *)"abc", 3)
-              == GRIMHOLDI_DONE);
+              == GRIMHOLDI_ANSWER_DONE);
     }
 }
 

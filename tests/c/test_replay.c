@@ -33,7 +33,7 @@ static int refuses(uint32_t place, size_t block_len, uint8_t refusal)
     fill_answers();
     r = grimholdi_replay_block(area, area_len, place, block, block_len,
                                answers, ANSWERS);
-    return is_result(r, GRIMHOLDI_DONE, refusal,
+    return is_result(r, GRIMHOLDI_ANSWER_DONE, refusal,
                      (uint8_t)(held_by(0) + held_by(1)), 0)
            && is_tally(r, 0, 0, 0) && area_is_saved() && answers_are_filled(0);
 }
@@ -44,12 +44,12 @@ static int refuses(uint32_t place, size_t block_len, uint8_t refusal)
 static void busy_hub(void)
 {
     configured_hub(4, 3);
-    CHECK(set_feature(GRIMHOLDI_PORT_POWER, 1) == GRIMHOLDI_DONE);
-    CHECK(event(GRIMHOLDI_EVENT_ATTACH_FULL, 1) == GRIMHOLDI_DONE);
-    CHECK(set_feature(GRIMHOLDI_PORT_RESET, 1) == GRIMHOLDI_DONE);
+    CHECK(set_feature(GRIMHOLDI_PORT_POWER, 1) == GRIMHOLDI_ANSWER_DONE);
+    CHECK(event(GRIMHOLDI_EVENT_ATTACH_FULL, 1) == GRIMHOLDI_ANSWER_DONE);
+    CHECK(set_feature(GRIMHOLDI_PORT_RESET, 1) == GRIMHOLDI_ANSWER_DONE);
     make_ready(0, 5, "ready");
     make_old(1, 6, "old");
-    CHECK(start_in_from(1, 7, 1) == GRIMHOLDI_DONE);
+    CHECK(start_in_from(1, 7, 1) == GRIMHOLDI_ANSWER_DONE);
 }
 
 enum { BAD_CHECK = 1, BAD_NUMBER = 2, BAD_COUNT = 4, BAD_RECORD = 8 };
@@ -104,7 +104,8 @@ static void first_of_several(void)
     free(block);
     block = allocate(BLOCK);
     put_bad(0, 0, 0);
-    CHECK(is_result(replay(5), GRIMHOLDI_DONE, GRIMHOLDI_REFUSED_NOT, 0, 30));
+    CHECK(is_result(replay(5), GRIMHOLDI_ANSWER_DONE, GRIMHOLDI_REFUSED_NOT,
+                    0, 30));
 }
 
 /* No block at all. */
@@ -114,7 +115,7 @@ static void no_block(void)
 
     busy_hub();
     r = grimholdi_replay_block(area, area_len, 1, NULL, 0, answers, ANSWERS);
-    CHECK(is_result(r, GRIMHOLDI_DONE, GRIMHOLDI_REFUSED_LENGTH, 2, 0));
+    CHECK(is_result(r, GRIMHOLDI_ANSWER_DONE, GRIMHOLDI_REFUSED_LENGTH, 2, 0));
 }
 
 static void places(void)
@@ -136,7 +137,7 @@ static void places(void)
     }
     for (i = 0; i < sizeof right / sizeof *right; i++) {
         put_finished(block, right[i], NULL, 0);
-        CHECK(is_result(check_replay(right[i]), GRIMHOLDI_DONE,
+        CHECK(is_result(check_replay(right[i]), GRIMHOLDI_ANSWER_DONE,
                         GRIMHOLDI_REFUSED_NOT, 2, 0));
     }
     /* Under way: never good. */
@@ -161,27 +162,27 @@ static void area_and_space(void)
         for (length = 0; length < ANSWERS; length += length < 3 ? 1 : 1440)
             CHECK(is_result(grimholdi_replay_block(area, area_len, 1, block,
                                                    BLOCK, answers, length),
-                            GRIMHOLDI_NO_SPACE, 0, 0, 0));
+                            GRIMHOLDI_ANSWER_NO_SPACE, 0, 0, 0));
         CHECK(is_result(grimholdi_replay_block(area, area_len, 1, block, BLOCK,
                                                NULL, 0),
-                        GRIMHOLDI_NO_SPACE, 0, 0, 0));
+                        GRIMHOLDI_ANSWER_NO_SPACE, 0, 0, 0));
         CHECK(is_result(grimholdi_replay_block(area, area_len, 1, block, BLOCK,
                                                answers, 37443),
-                        GRIMHOLDI_NO_SPACE, 0, 0, 0));
+                        GRIMHOLDI_ANSWER_NO_SPACE, 0, 0, 0));
         CHECK(is_result(grimholdi_replay_block(area, area_len - 1, 1, block,
                                                BLOCK, answers, ANSWERS),
-                        GRIMHOLDI_OUTSIDE, 0, 0, 0));
+                        GRIMHOLDI_ANSWER_OUTSIDE, 0, 0, 0));
         CHECK(is_result(grimholdi_replay_block(NULL, 0, 1, block, BLOCK,
                                                answers, 37443),
-                        GRIMHOLDI_OUTSIDE, 0, 0, 0));
+                        GRIMHOLDI_ANSWER_OUTSIDE, 0, 0, 0));
         area[5] = 2;
         save();
-        CHECK(is_result(replay(1), GRIMHOLDI_OUTSIDE, 0, 0, 0));
+        CHECK(is_result(replay(1), GRIMHOLDI_ANSWER_OUTSIDE, 0, 0, 0));
         CHECK(is_tally(replay(1), 0, 0, 0));
         CHECK(area_is_saved() && answers_are_filled(0));
         area[5] = 1;
     }
-    CHECK(is_result(replay(1), GRIMHOLDI_DONE, 0, 2, 10));
+    CHECK(is_result(replay(1), GRIMHOLDI_ANSWER_DONE, 0, 2, 10));
 }
 
 /* One bad record refuses the calls before it too. */

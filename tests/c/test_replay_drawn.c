@@ -158,7 +158,7 @@ static void check_refused(uint8_t refusal)
 
     memset(answers, 0xEE, 10);
     r = replay(0x0102);
-    CHECK(is_result(r, GRIMHOLDI_DONE, refusal, 0, 0));
+    CHECK(is_result(r, GRIMHOLDI_ANSWER_DONE, refusal, 0, 0));
     CHECK(is_tally(r, 0, 0, 0));
     CHECK(area_is_saved() && answers[0] == 0xEE && answers[9] == 0xEE);
 }

@@ -8,19 +8,23 @@ enum { PORT = 1 };
 static void port_after(int steps, uint32_t buffers)
 {
     new_hub(3, buffers);
-    CHECK(set_configuration(1) == GRIMHOLDI_DONE);
+    CHECK(set_configuration(1) == GRIMHOLDI_ANSWER_DONE);
     if (steps >= 1)
-        CHECK(set_feature(GRIMHOLDI_PORT_POWER, PORT) == GRIMHOLDI_DONE);
+        CHECK(set_feature(GRIMHOLDI_PORT_POWER, PORT)
+              == GRIMHOLDI_ANSWER_DONE);
     if (steps >= 2)
-        CHECK(event(GRIMHOLDI_EVENT_ATTACH_FULL, PORT) == GRIMHOLDI_DONE);
+        CHECK(event(GRIMHOLDI_EVENT_ATTACH_FULL, PORT)
+              == GRIMHOLDI_ANSWER_DONE);
     if (steps >= 3)
-        CHECK(set_feature(GRIMHOLDI_PORT_RESET, PORT) == GRIMHOLDI_DONE);
+        CHECK(set_feature(GRIMHOLDI_PORT_RESET, PORT)
+              == GRIMHOLDI_ANSWER_DONE);
     if (steps >= 4)
         ticks(GRIMHOLDI_RESET_TICKS);
     if (steps >= 5)
-        CHECK(set_feature(GRIMHOLDI_PORT_SUSPEND, PORT) == GRIMHOLDI_DONE);
+        CHECK(set_feature(GRIMHOLDI_PORT_SUSPEND, PORT)
+              == GRIMHOLDI_ANSWER_DONE);
     if (steps >= 6)
-        CHECK(event(GRIMHOLDI_EVENT_WAKE, PORT) == GRIMHOLDI_DONE);
+        CHECK(event(GRIMHOLDI_EVENT_WAKE, PORT) == GRIMHOLDI_ANSWER_DONE);
 }
 
 static void enabled_hub(uint32_t buffers)
@@ -36,9 +40,9 @@ static int event_is(int taken, uint32_t number)
 
     if (taken)
         return is_reason(reason, GRIMHOLDI_WHY_NONE, 0)
-               && event(number, PORT) == GRIMHOLDI_DONE;
-    return is_reason(reason, GRIMHOLDI_WHY_NUMBER, GRIMHOLDI_NOT_NOW)
-           && event(number, PORT) == GRIMHOLDI_NOT_NOW;
+               && event(number, PORT) == GRIMHOLDI_ANSWER_DONE;
+    return is_reason(reason, GRIMHOLDI_WHY_NUMBER, GRIMHOLDI_ANSWER_NOT_NOW)
+           && event(number, PORT) == GRIMHOLDI_ANSWER_NOT_NOW;
 }
 
 /* Which events each state takes; the others answer NOT_NOW. */
@@ -66,13 +70,14 @@ static void events_by_state(void)
 static void direction_is_part_of_the_key(void)
 {
     enabled_hub(3);
-    CHECK(start_out(5, 1, (const uint8_t *)"abc", 3) == GRIMHOLDI_DONE);
-    CHECK(complete(5, 1, GRIMHOLDI_DIRECTION_IN).number == GRIMHOLDI_STALL);
-    CHECK(start_in(5, 1) == GRIMHOLDI_DONE);
+    CHECK(start_out(5, 1, (const uint8_t *)"abc", 3) == GRIMHOLDI_ANSWER_DONE);
+    CHECK(complete(5, 1, GRIMHOLDI_DIRECTION_IN).number
+          == GRIMHOLDI_ANSWER_STALL);
+    CHECK(start_in(5, 1) == GRIMHOLDI_ANSWER_DONE);
     CHECK(launch().pid == GRIMHOLDI_PID_OUT);
-    CHECK(deliver(GRIMHOLDI_RESULT_ACK, NULL, 0) == GRIMHOLDI_DONE);
+    CHECK(deliver(GRIMHOLDI_RESULT_ACK, NULL, 0) == GRIMHOLDI_ANSWER_DONE);
     CHECK(launch().pid == GRIMHOLDI_PID_IN);
-    CHECK(deliver(GRIMHOLDI_RESULT_NAK, NULL, 0) == GRIMHOLDI_DONE);
+    CHECK(deliver(GRIMHOLDI_RESULT_NAK, NULL, 0) == GRIMHOLDI_ANSWER_DONE);
     CHECK(complete(5, 1, GRIMHOLDI_DIRECTION_OUT).pid == GRIMHOLDI_RESULT_ACK);
     CHECK(complete(5, 1, GRIMHOLDI_DIRECTION_IN).pid == GRIMHOLDI_RESULT_NAK);
 }
@@ -83,14 +88,14 @@ static void short_result_has_no_older_tail(void)
 
     memset(bytes, 0x55, sizeof bytes);
     enabled_hub(3);
-    CHECK(start_in(5, 1) == GRIMHOLDI_DONE);
-    CHECK(launch().number == GRIMHOLDI_DATA);
-    CHECK(deliver(GRIMHOLDI_RESULT_DATA0, bytes, 64) == GRIMHOLDI_DONE);
+    CHECK(start_in(5, 1) == GRIMHOLDI_ANSWER_DONE);
+    CHECK(launch().number == GRIMHOLDI_ANSWER_DATA);
+    CHECK(deliver(GRIMHOLDI_RESULT_DATA0, bytes, 64) == GRIMHOLDI_ANSWER_DONE);
     CHECK(complete(5, 1, GRIMHOLDI_DIRECTION_IN).length == 64);
-    CHECK(start_in(5, 1) == GRIMHOLDI_DONE);
-    CHECK(launch().number == GRIMHOLDI_DATA);
+    CHECK(start_in(5, 1) == GRIMHOLDI_ANSWER_DONE);
+    CHECK(launch().number == GRIMHOLDI_ANSWER_DATA);
     CHECK(deliver(GRIMHOLDI_RESULT_DATA1, (const uint8_t *)"ab", 2)
-          == GRIMHOLDI_DONE);
+          == GRIMHOLDI_ANSWER_DONE);
     memset(reply, 0xEE, GRIMHOLDI_REPLY_LENGTH);
     CHECK(gives(complete(5, 1, GRIMHOLDI_DIRECTION_IN), "ab", 2));
     CHECK(reply[2] == 0xEE && reply[63] == 0xEE);
@@ -99,48 +104,51 @@ static void short_result_has_no_older_tail(void)
 static void late_result_is_thrown_away(void)
 {
     enabled_hub(3);
-    CHECK(start_in(5, 1) == GRIMHOLDI_DONE);
-    CHECK(launch().number == GRIMHOLDI_DATA);
-    CHECK(clear_tt_buffer(5, 1, GRIMHOLDI_DIRECTION_IN) == GRIMHOLDI_DONE);
-    CHECK(start_in(5, 1) == GRIMHOLDI_DONE);
-    CHECK(launch().number == GRIMHOLDI_NOT_NOW);
+    CHECK(start_in(5, 1) == GRIMHOLDI_ANSWER_DONE);
+    CHECK(launch().number == GRIMHOLDI_ANSWER_DATA);
+    CHECK(clear_tt_buffer(5, 1, GRIMHOLDI_DIRECTION_IN)
+          == GRIMHOLDI_ANSWER_DONE);
+    CHECK(start_in(5, 1) == GRIMHOLDI_ANSWER_DONE);
+    CHECK(launch().number == GRIMHOLDI_ANSWER_NOT_NOW);
 
     /* A second clear of the refilled key leaves one delivery to come. */
-    CHECK(clear_tt_buffer(5, 1, GRIMHOLDI_DIRECTION_IN) == GRIMHOLDI_DONE);
-    CHECK(start_in(5, 1) == GRIMHOLDI_DONE);
+    CHECK(clear_tt_buffer(5, 1, GRIMHOLDI_DIRECTION_IN)
+          == GRIMHOLDI_ANSWER_DONE);
+    CHECK(start_in(5, 1) == GRIMHOLDI_ANSWER_DONE);
 
     /* Numbers outside the rules leave the low side occupied. */
     CHECK(deliver(GRIMHOLDI_RESULT_ACK, (const uint8_t *)"a", 1)
-          == GRIMHOLDI_OUTSIDE);
-    CHECK(launch().number == GRIMHOLDI_NOT_NOW);
+          == GRIMHOLDI_ANSWER_OUTSIDE);
+    CHECK(launch().number == GRIMHOLDI_ANSWER_NOT_NOW);
 
     /* ACK would not suit IN; it is thrown away all the same. */
-    CHECK(deliver(GRIMHOLDI_RESULT_ACK, NULL, 0) == GRIMHOLDI_DONE);
-    CHECK(complete(5, 1, GRIMHOLDI_DIRECTION_IN).number == GRIMHOLDI_NYET);
-    CHECK(deliver(GRIMHOLDI_RESULT_NAK, NULL, 0) == GRIMHOLDI_NOT_NOW);
+    CHECK(deliver(GRIMHOLDI_RESULT_ACK, NULL, 0) == GRIMHOLDI_ANSWER_DONE);
+    CHECK(complete(5, 1, GRIMHOLDI_DIRECTION_IN).number
+          == GRIMHOLDI_ANSWER_NYET);
+    CHECK(deliver(GRIMHOLDI_RESULT_NAK, NULL, 0) == GRIMHOLDI_ANSWER_NOT_NOW);
     CHECK(launch().address == 5);
 }
 
 static void late_result_after_a_stop(void)
 {
     enabled_hub(3);
-    CHECK(start_in(5, 1) == GRIMHOLDI_DONE);
-    CHECK(launch().number == GRIMHOLDI_DATA);
-    CHECK(set_configuration(1) == GRIMHOLDI_DONE);
-    CHECK(deliver(GRIMHOLDI_RESULT_NAK, NULL, 0) == GRIMHOLDI_NOT_NOW);
-    CHECK(start_in(5, 1) == GRIMHOLDI_DONE);
-    CHECK(launch().number == GRIMHOLDI_DATA);
-    CHECK(bus_reset() == GRIMHOLDI_DONE);
-    CHECK(deliver(GRIMHOLDI_RESULT_NAK, NULL, 0) == GRIMHOLDI_SILENT);
+    CHECK(start_in(5, 1) == GRIMHOLDI_ANSWER_DONE);
+    CHECK(launch().number == GRIMHOLDI_ANSWER_DATA);
+    CHECK(set_configuration(1) == GRIMHOLDI_ANSWER_DONE);
+    CHECK(deliver(GRIMHOLDI_RESULT_NAK, NULL, 0) == GRIMHOLDI_ANSWER_NOT_NOW);
+    CHECK(start_in(5, 1) == GRIMHOLDI_ANSWER_DONE);
+    CHECK(launch().number == GRIMHOLDI_ANSWER_DATA);
+    CHECK(bus_reset() == GRIMHOLDI_ANSWER_DONE);
+    CHECK(deliver(GRIMHOLDI_RESULT_NAK, NULL, 0) == GRIMHOLDI_ANSWER_SILENT);
 }
 
 static void second_reset_keeps_the_timer(void)
 {
     enabled_hub(3);
-    CHECK(set_feature(GRIMHOLDI_PORT_RESET, PORT) == GRIMHOLDI_DONE);
-    CHECK(event(GRIMHOLDI_EVENT_CHIRP, PORT) == GRIMHOLDI_DONE);
+    CHECK(set_feature(GRIMHOLDI_PORT_RESET, PORT) == GRIMHOLDI_ANSWER_DONE);
+    CHECK(event(GRIMHOLDI_EVENT_CHIRP, PORT) == GRIMHOLDI_ANSWER_DONE);
     ticks(14);
-    CHECK(set_feature(GRIMHOLDI_PORT_RESET, PORT) == GRIMHOLDI_DONE);
+    CHECK(set_feature(GRIMHOLDI_PORT_RESET, PORT) == GRIMHOLDI_ANSWER_DONE);
     ticks(1);
     CHECK(status_is(PORT, "\x03\x05\x11\x00"));
 }
@@ -148,32 +156,35 @@ static void second_reset_keeps_the_timer(void)
 static void chirp_is_for_full_speed(void)
 {
     enabled_hub(3);
-    CHECK(set_feature(GRIMHOLDI_PORT_RESET, PORT) == GRIMHOLDI_DONE);
-    CHECK(event(GRIMHOLDI_EVENT_CHIRP, PORT) == GRIMHOLDI_DONE);
-    CHECK(event(GRIMHOLDI_EVENT_CHIRP, PORT) == GRIMHOLDI_NOT_NOW);
-    CHECK(set_feature(GRIMHOLDI_PORT_POWER, 2) == GRIMHOLDI_DONE);
-    CHECK(event(GRIMHOLDI_EVENT_ATTACH_LOW, 2) == GRIMHOLDI_DONE);
-    CHECK(set_feature(GRIMHOLDI_PORT_RESET, 2) == GRIMHOLDI_DONE);
-    CHECK(event(GRIMHOLDI_EVENT_CHIRP, 2) == GRIMHOLDI_NOT_NOW);
+    CHECK(set_feature(GRIMHOLDI_PORT_RESET, PORT) == GRIMHOLDI_ANSWER_DONE);
+    CHECK(event(GRIMHOLDI_EVENT_CHIRP, PORT) == GRIMHOLDI_ANSWER_DONE);
+    CHECK(event(GRIMHOLDI_EVENT_CHIRP, PORT) == GRIMHOLDI_ANSWER_NOT_NOW);
+    CHECK(set_feature(GRIMHOLDI_PORT_POWER, 2) == GRIMHOLDI_ANSWER_DONE);
+    CHECK(event(GRIMHOLDI_EVENT_ATTACH_LOW, 2) == GRIMHOLDI_ANSWER_DONE);
+    CHECK(set_feature(GRIMHOLDI_PORT_RESET, 2) == GRIMHOLDI_ANSWER_DONE);
+    CHECK(event(GRIMHOLDI_EVENT_CHIRP, 2) == GRIMHOLDI_ANSWER_NOT_NOW);
 }
 
 static void power_off_keeps_change_bits(void)
 {
     enabled_hub(3);
-    CHECK(clear_feature(GRIMHOLDI_PORT_POWER, PORT) == GRIMHOLDI_DONE);
+    CHECK(clear_feature(GRIMHOLDI_PORT_POWER, PORT) == GRIMHOLDI_ANSWER_DONE);
     CHECK(status_is(PORT, "\x00\x00\x11\x00"));
-    CHECK(clear_feature(GRIMHOLDI_C_PORT_CONNECTION, PORT) == GRIMHOLDI_DONE);
-    CHECK(clear_feature(GRIMHOLDI_C_PORT_RESET, PORT) == GRIMHOLDI_DONE);
-    CHECK(poll().number == GRIMHOLDI_NAK);
+    CHECK(clear_feature(GRIMHOLDI_C_PORT_CONNECTION, PORT)
+          == GRIMHOLDI_ANSWER_DONE);
+    CHECK(clear_feature(GRIMHOLDI_C_PORT_RESET, PORT)
+          == GRIMHOLDI_ANSWER_DONE);
+    CHECK(poll().number == GRIMHOLDI_ANSWER_NAK);
 }
 
 static void resume_takes_22_ticks(void)
 {
     enabled_hub(3);
-    CHECK(set_feature(GRIMHOLDI_PORT_SUSPEND, PORT) == GRIMHOLDI_DONE);
-    CHECK(event(GRIMHOLDI_EVENT_WAKE, PORT) == GRIMHOLDI_DONE);
+    CHECK(set_feature(GRIMHOLDI_PORT_SUSPEND, PORT) == GRIMHOLDI_ANSWER_DONE);
+    CHECK(event(GRIMHOLDI_EVENT_WAKE, PORT) == GRIMHOLDI_ANSWER_DONE);
     ticks(21);
-    CHECK(clear_feature(GRIMHOLDI_PORT_SUSPEND, PORT) == GRIMHOLDI_DONE);
+    CHECK(clear_feature(GRIMHOLDI_PORT_SUSPEND, PORT)
+          == GRIMHOLDI_ANSWER_DONE);
     CHECK(status_is(PORT, "\x07\x01\x11\x00"));
     ticks(1);
     CHECK(status_is(PORT, "\x03\x01\x15\x00"));
@@ -182,12 +193,12 @@ static void resume_takes_22_ticks(void)
 static void speed_is_kept_while_disabled(void)
 {
     enabled_hub(3);
-    CHECK(set_feature(GRIMHOLDI_PORT_RESET, PORT) == GRIMHOLDI_DONE);
-    CHECK(event(GRIMHOLDI_EVENT_CHIRP, PORT) == GRIMHOLDI_DONE);
+    CHECK(set_feature(GRIMHOLDI_PORT_RESET, PORT) == GRIMHOLDI_ANSWER_DONE);
+    CHECK(event(GRIMHOLDI_EVENT_CHIRP, PORT) == GRIMHOLDI_ANSWER_DONE);
     ticks(GRIMHOLDI_RESET_TICKS);
-    CHECK(clear_feature(GRIMHOLDI_PORT_ENABLE, PORT) == GRIMHOLDI_DONE);
+    CHECK(clear_feature(GRIMHOLDI_PORT_ENABLE, PORT) == GRIMHOLDI_ANSWER_DONE);
     CHECK(status_is(PORT, "\x01\x05\x11\x00"));
-    CHECK(set_feature(GRIMHOLDI_PORT_RESET, PORT) == GRIMHOLDI_DONE);
+    CHECK(set_feature(GRIMHOLDI_PORT_RESET, PORT) == GRIMHOLDI_ANSWER_DONE);
     CHECK(status_is(PORT, "\x11\x01\x11\x00"));
 }
 
@@ -218,56 +229,59 @@ static void enable_change_is_for_port_errors(void)
             port_after(steps, 3);
             CHECK(!(port_changes(PORT) & GRIMHOLDI_CHANGE_ENABLE));
         }
-        CHECK(event(ends[i].event, PORT) == GRIMHOLDI_DONE);
+        CHECK(event(ends[i].event, PORT) == GRIMHOLDI_ANSWER_DONE);
         CHECK(status_is(PORT, ends[i].status));
     }
 
     enabled_hub(3);
-    CHECK(clear_feature(GRIMHOLDI_PORT_ENABLE, PORT) == GRIMHOLDI_DONE);
+    CHECK(clear_feature(GRIMHOLDI_PORT_ENABLE, PORT) == GRIMHOLDI_ANSWER_DONE);
     CHECK(status_is(PORT, "\x01\x01\x11\x00"));
     enabled_hub(3);
-    CHECK(set_feature(GRIMHOLDI_PORT_RESET, PORT) == GRIMHOLDI_DONE);
+    CHECK(set_feature(GRIMHOLDI_PORT_RESET, PORT) == GRIMHOLDI_ANSWER_DONE);
     CHECK(status_is(PORT, "\x11\x01\x11\x00"));
     enabled_hub(3);
-    CHECK(set_configuration(1) == GRIMHOLDI_DONE);
+    CHECK(set_configuration(1) == GRIMHOLDI_ANSWER_DONE);
     CHECK(status_is(PORT, "\x00\x00\x11\x00"));
 }
 
 static void enable_change_stays_until_cleared(void)
 {
     enabled_hub(3);
-    CHECK(event(GRIMHOLDI_EVENT_PORT_ERROR, PORT) == GRIMHOLDI_DONE);
+    CHECK(event(GRIMHOLDI_EVENT_PORT_ERROR, PORT) == GRIMHOLDI_ANSWER_DONE);
     CHECK(status_is(PORT, "\x01\x01\x13\x00"));
-    CHECK(event(GRIMHOLDI_EVENT_PORT_ERROR, PORT) == GRIMHOLDI_NOT_NOW);
-    CHECK(event(GRIMHOLDI_EVENT_DETACH, PORT) == GRIMHOLDI_DONE);
+    CHECK(event(GRIMHOLDI_EVENT_PORT_ERROR, PORT) == GRIMHOLDI_ANSWER_NOT_NOW);
+    CHECK(event(GRIMHOLDI_EVENT_DETACH, PORT) == GRIMHOLDI_ANSWER_DONE);
     CHECK(status_is(PORT, "\x00\x01\x13\x00"));
-    CHECK(event(GRIMHOLDI_EVENT_OVER_CURRENT_ON, PORT) == GRIMHOLDI_DONE);
+    CHECK(event(GRIMHOLDI_EVENT_OVER_CURRENT_ON, PORT)
+          == GRIMHOLDI_ANSWER_DONE);
     CHECK(status_is(PORT, "\x08\x00\x1B\x00"));
-    CHECK(clear_feature(GRIMHOLDI_C_PORT_ENABLE, PORT) == GRIMHOLDI_DONE);
+    CHECK(clear_feature(GRIMHOLDI_C_PORT_ENABLE, PORT)
+          == GRIMHOLDI_ANSWER_DONE);
     CHECK(status_is(PORT, "\x08\x00\x19\x00"));
 
     enabled_hub(3);
-    CHECK(event(GRIMHOLDI_EVENT_PORT_ERROR, PORT) == GRIMHOLDI_DONE);
-    CHECK(bus_reset() == GRIMHOLDI_DONE);
-    CHECK(set_configuration(1) == GRIMHOLDI_DONE);
+    CHECK(event(GRIMHOLDI_EVENT_PORT_ERROR, PORT) == GRIMHOLDI_ANSWER_DONE);
+    CHECK(bus_reset() == GRIMHOLDI_ANSWER_DONE);
+    CHECK(set_configuration(1) == GRIMHOLDI_ANSWER_DONE);
     CHECK(status_is(PORT, "\x00\x00\x00\x00"));
 }
 
 static void over_current_levels(void)
 {
     enabled_hub(3);
-    CHECK(event(GRIMHOLDI_EVENT_OVER_CURRENT_ON, 2) == GRIMHOLDI_DONE);
-    CHECK(set_feature(GRIMHOLDI_PORT_POWER, 2) == GRIMHOLDI_DONE);
+    CHECK(event(GRIMHOLDI_EVENT_OVER_CURRENT_ON, 2) == GRIMHOLDI_ANSWER_DONE);
+    CHECK(set_feature(GRIMHOLDI_PORT_POWER, 2) == GRIMHOLDI_ANSWER_DONE);
     CHECK(status_is(2, "\x08\x00\x08\x00"));
-    CHECK(clear_feature(GRIMHOLDI_C_PORT_OVER_CURRENT, 2) == GRIMHOLDI_DONE);
-    CHECK(event(GRIMHOLDI_EVENT_OVER_CURRENT_ON, 2) == GRIMHOLDI_DONE);
+    CHECK(clear_feature(GRIMHOLDI_C_PORT_OVER_CURRENT, 2)
+          == GRIMHOLDI_ANSWER_DONE);
+    CHECK(event(GRIMHOLDI_EVENT_OVER_CURRENT_ON, 2) == GRIMHOLDI_ANSWER_DONE);
     CHECK(status_is(2, "\x08\x00\x00\x00"));
 
-    CHECK(set_configuration(1) == GRIMHOLDI_DONE);
+    CHECK(set_configuration(1) == GRIMHOLDI_ANSWER_DONE);
     CHECK(status_is(2, "\x08\x00\x00\x00"));
     CHECK(status_is(PORT, "\x00\x00\x11\x00"));
-    CHECK(set_configuration(0) == GRIMHOLDI_DONE);
-    CHECK(set_configuration(1) == GRIMHOLDI_DONE);
+    CHECK(set_configuration(0) == GRIMHOLDI_ANSWER_DONE);
+    CHECK(set_configuration(1) == GRIMHOLDI_ANSWER_DONE);
     CHECK(status_is(2, "\x00\x00\x00\x00"));
     CHECK(status_is(PORT, "\x00\x00\x11\x00"));
 }
@@ -275,12 +289,13 @@ static void over_current_levels(void)
 static void unconfigured_hub(void)
 {
     new_hub(3, 3);
-    CHECK(grimholdi_tick(area, area_len).number == GRIMHOLDI_DONE);
-    CHECK(event(GRIMHOLDI_EVENT_OVER_CURRENT_ON, 1) == GRIMHOLDI_NOT_NOW);
+    CHECK(grimholdi_tick(area, area_len).number == GRIMHOLDI_ANSWER_DONE);
+    CHECK(event(GRIMHOLDI_EVENT_OVER_CURRENT_ON, 1)
+          == GRIMHOLDI_ANSWER_NOT_NOW);
     CHECK(gives(request(GRIMHOLDI_TYPE_GET_CONFIGURATION,
                         GRIMHOLDI_REQUEST_GET_CONFIGURATION, 0, 0, 1),
                 "\x00", 1));
-    CHECK(set_configuration(1) == GRIMHOLDI_DONE);
+    CHECK(set_configuration(1) == GRIMHOLDI_ANSWER_DONE);
     CHECK(gives(request(GRIMHOLDI_TYPE_GET_CONFIGURATION,
                         GRIMHOLDI_REQUEST_GET_CONFIGURATION, 0, 0, 1),
                 "\x01", 1));
@@ -288,7 +303,7 @@ static void unconfigured_hub(void)
                         0, 0, 4), "\x00\x00\x00\x00", 4));
     CHECK(request(GRIMHOLDI_TYPE_SET_HUB, GRIMHOLDI_REQUEST_CLEAR_FEATURE,
                   GRIMHOLDI_C_HUB_OVER_CURRENT, 0, 0).number
-          == GRIMHOLDI_DONE);
+          == GRIMHOLDI_ANSWER_DONE);
 }
 
 static void bus_reset_gives_the_new_hub(void)
@@ -298,26 +313,26 @@ static void bus_reset_gives_the_new_hub(void)
     new_hub(3, 3);
     memcpy(fresh, area, area_len);
     enabled_hub(3);
-    CHECK(start_in(5, 1) == GRIMHOLDI_DONE);
-    CHECK(event(GRIMHOLDI_EVENT_OVER_CURRENT_ON, 2) == GRIMHOLDI_DONE);
-    CHECK(bus_reset() == GRIMHOLDI_DONE);
+    CHECK(start_in(5, 1) == GRIMHOLDI_ANSWER_DONE);
+    CHECK(event(GRIMHOLDI_EVENT_OVER_CURRENT_ON, 2) == GRIMHOLDI_ANSWER_DONE);
+    CHECK(bus_reset() == GRIMHOLDI_ANSWER_DONE);
     CHECK(memcmp(area, fresh, area_len) == 0);
 }
 
 static void own_old_buffer_comes_first(void)
 {
     enabled_hub(3);
-    CHECK(start_in(5, 1) == GRIMHOLDI_DONE);
-    CHECK(start_in(6, 1) == GRIMHOLDI_DONE);
+    CHECK(start_in(5, 1) == GRIMHOLDI_ANSWER_DONE);
+    CHECK(start_in(6, 1) == GRIMHOLDI_ANSWER_DONE);
     CHECK(launch().address == 5);
-    CHECK(deliver(GRIMHOLDI_RESULT_NAK, NULL, 0) == GRIMHOLDI_DONE);
+    CHECK(deliver(GRIMHOLDI_RESULT_NAK, NULL, 0) == GRIMHOLDI_ANSWER_DONE);
     CHECK(launch().address == 6);
-    CHECK(deliver(GRIMHOLDI_RESULT_NAK, NULL, 0) == GRIMHOLDI_DONE);
+    CHECK(deliver(GRIMHOLDI_RESULT_NAK, NULL, 0) == GRIMHOLDI_ANSWER_DONE);
     CHECK(complete(5, 1, GRIMHOLDI_DIRECTION_IN).pid == GRIMHOLDI_RESULT_NAK);
     CHECK(complete(6, 1, GRIMHOLDI_DIRECTION_IN).pid == GRIMHOLDI_RESULT_NAK);
 
     /* Buffer 0 is old too, but its key is another. */
-    CHECK(start_in(6, 1) == GRIMHOLDI_DONE);
+    CHECK(start_in(6, 1) == GRIMHOLDI_ANSWER_DONE);
     CHECK(complete(5, 1, GRIMHOLDI_DIRECTION_IN).pid == GRIMHOLDI_RESULT_NAK);
 }
 
@@ -331,8 +346,8 @@ static void repeats_and_reuse(void)
     CHECK(grimholdi_start_split(area, area_len, 0, GRIMHOLDI_PID_SETUP,
                                 GRIMHOLDI_TRANSFER_CONTROL, 1, 1, 5, 0,
                                 (const uint8_t *)"12345678", 8).number
-          == GRIMHOLDI_DONE);
-    CHECK(start_out(5, 0, (const uint8_t *)"x", 1) == GRIMHOLDI_DONE);
+          == GRIMHOLDI_ANSWER_DONE);
+    CHECK(start_out(5, 0, (const uint8_t *)"x", 1) == GRIMHOLDI_ANSWER_DONE);
     answer = launch();
     CHECK(gives(answer, "12345678", 8));
     CHECK(answer.pid == GRIMHOLDI_PID_SETUP
@@ -340,31 +355,36 @@ static void repeats_and_reuse(void)
           && answer.address == 5 && answer.endpoint == 0
           && answer.direction == GRIMHOLDI_DIRECTION_OUT
           && answer.low_speed == 1 && answer.toggle == 1);
-    CHECK(deliver(GRIMHOLDI_RESULT_STALL, NULL, 0) == GRIMHOLDI_NOT_NOW);
-    CHECK(deliver(GRIMHOLDI_RESULT_FAILURE, NULL, 0) == GRIMHOLDI_DONE);
+    CHECK(deliver(GRIMHOLDI_RESULT_STALL, NULL, 0)
+          == GRIMHOLDI_ANSWER_NOT_NOW);
+    CHECK(deliver(GRIMHOLDI_RESULT_FAILURE, NULL, 0) == GRIMHOLDI_ANSWER_DONE);
     answer = complete(5, 0, GRIMHOLDI_DIRECTION_OUT);
-    CHECK(answer.number == GRIMHOLDI_HANDSHAKE
+    CHECK(answer.number == GRIMHOLDI_ANSWER_HANDSHAKE
           && answer.pid == GRIMHOLDI_RESULT_STALL && answer.length == 0);
 
     /* The old buffer is reused; a lane holds three of four. */
-    CHECK(start_out(5, 0, (const uint8_t *)"y", 1) == GRIMHOLDI_DONE);
-    CHECK(start_in(6, 1) == GRIMHOLDI_DONE);
-    CHECK(start_in(7, 1) == GRIMHOLDI_DONE);
-    CHECK(start_in(8, 1) == GRIMHOLDI_NAK);
+    CHECK(start_out(5, 0, (const uint8_t *)"y", 1) == GRIMHOLDI_ANSWER_DONE);
+    CHECK(start_in(6, 1) == GRIMHOLDI_ANSWER_DONE);
+    CHECK(start_in(7, 1) == GRIMHOLDI_ANSWER_DONE);
+    CHECK(start_in(8, 1) == GRIMHOLDI_ANSWER_NAK);
 
     /* Launches follow the order of acceptance, not that of the buffers. */
-    CHECK(clear_tt_buffer(5, 0, GRIMHOLDI_DIRECTION_OUT) == GRIMHOLDI_DONE);
-    CHECK(start_in(8, 1) == GRIMHOLDI_DONE);
+    CHECK(clear_tt_buffer(5, 0, GRIMHOLDI_DIRECTION_OUT)
+          == GRIMHOLDI_ANSWER_DONE);
+    CHECK(start_in(8, 1) == GRIMHOLDI_ANSWER_DONE);
     CHECK(launch().address == 6);
-    CHECK(deliver(GRIMHOLDI_RESULT_NAK, NULL, 0) == GRIMHOLDI_DONE);
+    CHECK(deliver(GRIMHOLDI_RESULT_NAK, NULL, 0) == GRIMHOLDI_ANSWER_DONE);
     CHECK(launch().address == 7);
-    CHECK(deliver(GRIMHOLDI_RESULT_NAK, NULL, 0) == GRIMHOLDI_DONE);
+    CHECK(deliver(GRIMHOLDI_RESULT_NAK, NULL, 0) == GRIMHOLDI_ANSWER_DONE);
     CHECK(launch().address == 8);
 
     /* A clear without a buffer is done, and empties ready buffers too. */
-    CHECK(clear_tt_buffer(9, 1, GRIMHOLDI_DIRECTION_IN) == GRIMHOLDI_DONE);
-    CHECK(clear_tt_buffer(6, 1, GRIMHOLDI_DIRECTION_IN) == GRIMHOLDI_DONE);
-    CHECK(complete(6, 1, GRIMHOLDI_DIRECTION_IN).number == GRIMHOLDI_STALL);
+    CHECK(clear_tt_buffer(9, 1, GRIMHOLDI_DIRECTION_IN)
+          == GRIMHOLDI_ANSWER_DONE);
+    CHECK(clear_tt_buffer(6, 1, GRIMHOLDI_DIRECTION_IN)
+          == GRIMHOLDI_ANSWER_DONE);
+    CHECK(complete(6, 1, GRIMHOLDI_DIRECTION_IN).number
+          == GRIMHOLDI_ANSWER_STALL);
 }
 
 int main(void)

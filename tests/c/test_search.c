@@ -166,24 +166,24 @@ static outcome due_by_the_rule(const call *c)
     /* "a buffer with its key that is pending or ready, ACK" */
     for (i = 0; i < area[1]; i++)
         if (has_key_of(i, c) && is_held(i))
-            return due(GRIMHOLDI_WHY_HELD, i, GRIMHOLDI_DONE);
+            return due(GRIMHOLDI_WHY_HELD, i, GRIMHOLDI_ANSWER_DONE);
 
     /* "whose storing would pass the limit, in its own old buffer too" */
     if (held_by(c->lane) >= area[1] - 1u)
-        return due(GRIMHOLDI_WHY_LIMIT, 0, GRIMHOLDI_NAK);
+        return due(GRIMHOLDI_WHY_LIMIT, 0, GRIMHOLDI_ANSWER_NAK);
 
     /* "one that is old, reuse it" */
     for (i = 0; i < area[1]; i++)
         if (has_key_of(i, c) && buffer_bytes(i)[0] == OLD)
-            return due(GRIMHOLDI_WHY_REUSED, i, GRIMHOLDI_DONE);
+            return due(GRIMHOLDI_WHY_REUSED, i, GRIMHOLDI_ANSWER_DONE);
 
     /* "no key match, the lowest-numbered empty or old one" */
     for (i = 0; i < area[1]; i++)
         if (buffer_bytes(i)[0] == EMPTY || buffer_bytes(i)[0] == OLD)
-            return due(GRIMHOLDI_WHY_TOOK_FREE, i, GRIMHOLDI_DONE);
+            return due(GRIMHOLDI_WHY_TOOK_FREE, i, GRIMHOLDI_ANSWER_DONE);
 
     /* "none, 3" */
-    return due(GRIMHOLDI_WHY_NO_ROOM, 0, GRIMHOLDI_NAK);
+    return due(GRIMHOLDI_WHY_NO_ROOM, 0, GRIMHOLDI_ANSWER_NAK);
 }
 
 /* How many pending buffers were accepted before this one. */
@@ -278,8 +278,8 @@ static void search(uint32_t buffers, const call *c)
 
     configured_hub(1, buffers);
     for (i = 0; i < arrangements; i++) {
-        outcome o = due(GRIMHOLDI_WHY_NUMBER, GRIMHOLDI_OUTSIDE,
-                        GRIMHOLDI_OUTSIDE);
+        outcome o = due(GRIMHOLDI_WHY_NUMBER, GRIMHOLDI_ANSWER_OUTSIDE,
+                        GRIMHOLDI_ANSWER_OUTSIDE);
 
         put_arrangement(i, c);
         if (is_forbidden()) {

@@ -85,7 +85,7 @@ static grimholdi_answer answer(uint8_t number)
 static grimholdi_answer data(uint8_t *reply, const uint8_t *bytes,
                              uint8_t length)
 {
-    grimholdi_answer a = answer(GRIMHOLDI_DATA);
+    grimholdi_answer a = answer(GRIMHOLDI_ANSWER_DATA);
 
     memcpy(reply, bytes, length);
     a.length = length;
@@ -769,7 +769,7 @@ static grimholdi_answer serve(uint8_t *area, uint32_t lane, packet p,
         reset_tt(area, lane);
         break;
     }
-    return answer(GRIMHOLDI_DONE);
+    return answer(GRIMHOLDI_ANSWER_DONE);
 }
 
 /* Order of acceptance. */
@@ -888,7 +888,7 @@ static inline choice choose(const uint8_t *area, uint32_t lane,
 
 static inline uint8_t area_refusal(const uint8_t *area, size_t area_len)
 {
-    return area_ok(area, area_len) ? 0 : GRIMHOLDI_OUTSIDE;
+    return area_ok(area, area_len) ? 0 : GRIMHOLDI_ANSWER_OUTSIDE;
 }
 
 static inline uint8_t control_refusal(const uint8_t *area, size_t area_len,
@@ -897,18 +897,18 @@ static inline uint8_t control_refusal(const uint8_t *area, size_t area_len,
 {
     if (!area_ok(area, area_len) || !lane_ok(lane)
         || setup_len != GRIMHOLDI_SETUP_LENGTH)
-        return GRIMHOLDI_OUTSIDE;
-    return reply_len < GRIMHOLDI_REPLY_LENGTH ? GRIMHOLDI_NO_SPACE : 0;
+        return GRIMHOLDI_ANSWER_OUTSIDE;
+    return reply_len < GRIMHOLDI_REPLY_LENGTH ? GRIMHOLDI_ANSWER_NO_SPACE : 0;
 }
 
 static inline uint8_t poll_refusal(const uint8_t *area, size_t area_len,
                                    uint32_t lane, size_t reply_len)
 {
     if (!area_ok(area, area_len) || !lane_ok(lane))
-        return GRIMHOLDI_OUTSIDE;
+        return GRIMHOLDI_ANSWER_OUTSIDE;
     if (reply_len < GRIMHOLDI_REPLY_LENGTH)
-        return GRIMHOLDI_NO_SPACE;
-    return area[CONFIGURED] ? 0 : GRIMHOLDI_SILENT;
+        return GRIMHOLDI_ANSWER_NO_SPACE;
+    return area[CONFIGURED] ? 0 : GRIMHOLDI_ANSWER_SILENT;
 }
 
 static inline uint8_t start_split_refusal(const uint8_t *area,
@@ -921,8 +921,8 @@ static inline uint8_t start_split_refusal(const uint8_t *area,
     if (!area_ok(area, area_len) || !lane_ok(lane) || !token_ok(pid, transfer)
         || low_speed > 1 || toggle > 1 || !target_ok(address, endpoint)
         || !start_length_ok(pid, payload_len))
-        return GRIMHOLDI_OUTSIDE;
-    return area[CONFIGURED] ? 0 : GRIMHOLDI_SILENT;
+        return GRIMHOLDI_ANSWER_OUTSIDE;
+    return area[CONFIGURED] ? 0 : GRIMHOLDI_ANSWER_SILENT;
 }
 
 static inline uint8_t complete_split_refusal(const uint8_t *area,
@@ -935,22 +935,22 @@ static inline uint8_t complete_split_refusal(const uint8_t *area,
     if (!area_ok(area, area_len) || !lane_ok(lane)
         || !target_ok(address, endpoint)
         || direction > GRIMHOLDI_DIRECTION_IN)
-        return GRIMHOLDI_OUTSIDE;
+        return GRIMHOLDI_ANSWER_OUTSIDE;
     if (reply_len < GRIMHOLDI_REPLY_LENGTH)
-        return GRIMHOLDI_NO_SPACE;
-    return area[CONFIGURED] ? 0 : GRIMHOLDI_SILENT;
+        return GRIMHOLDI_ANSWER_NO_SPACE;
+    return area[CONFIGURED] ? 0 : GRIMHOLDI_ANSWER_SILENT;
 }
 
 static inline uint8_t launch_refusal(const uint8_t *area, size_t area_len,
                                      size_t reply_len)
 {
     if (!area_ok(area, area_len))
-        return GRIMHOLDI_OUTSIDE;
+        return GRIMHOLDI_ANSWER_OUTSIDE;
     if (reply_len < GRIMHOLDI_REPLY_LENGTH)
-        return GRIMHOLDI_NO_SPACE;
+        return GRIMHOLDI_ANSWER_NO_SPACE;
     if (!area[CONFIGURED])
-        return GRIMHOLDI_SILENT;
-    return area[LOW_SIDE] == LOW_IDLE ? 0 : GRIMHOLDI_NOT_NOW;
+        return GRIMHOLDI_ANSWER_SILENT;
+    return area[LOW_SIDE] == LOW_IDLE ? 0 : GRIMHOLDI_ANSWER_NOT_NOW;
 }
 
 /* An abandoned transaction takes any result. */
@@ -958,15 +958,15 @@ static inline uint8_t deliver_refusal(const uint8_t *area, size_t area_len,
                                       uint32_t result, size_t payload_len)
 {
     if (!area_ok(area, area_len) || !result_ok(result, payload_len))
-        return GRIMHOLDI_OUTSIDE;
+        return GRIMHOLDI_ANSWER_OUTSIDE;
     if (!area[CONFIGURED])
-        return GRIMHOLDI_SILENT;
+        return GRIMHOLDI_ANSWER_SILENT;
     if (area[LOW_SIDE] == LOW_IDLE)
-        return GRIMHOLDI_NOT_NOW;
+        return GRIMHOLDI_ANSWER_NOT_NOW;
     if (area[LOW_SIDE] == LOW_RUNNING
         && !result_suits(area[buffer_at(area, area[RUNNING_BUFFER]) + PID],
                          result))
-        return GRIMHOLDI_NOT_NOW;
+        return GRIMHOLDI_ANSWER_NOT_NOW;
     return 0;
 }
 
@@ -975,13 +975,18 @@ static inline uint8_t line_event_refusal(const uint8_t *area, size_t area_len,
 {
     if (!area_ok(area, area_len) || event > GRIMHOLDI_EVENT_OVER_CURRENT_OFF
         || port == 0 || port > area[PORTS])
-        return GRIMHOLDI_OUTSIDE;
+        return GRIMHOLDI_ANSWER_OUTSIDE;
     if (!area[CONFIGURED] || !event_suits(area + port_at(port), event))
-        return GRIMHOLDI_NOT_NOW;
+        return GRIMHOLDI_ANSWER_NOT_NOW;
     return 0;
 }
 
 /* The calls. */
+
+uint32_t INPLACE(version)(void)
+{
+    return GRIMHOLDI_VERSION_NUMBER;
+}
 
 size_t INPLACE(area_length)(uint32_t ports, uint32_t buffers)
 {
@@ -1000,14 +1005,14 @@ grimholdi_answer INPLACE(new)(uint8_t *area, size_t area_len,
 
     if (length == 0 || area_len != length || power_good > 255 || current > 255
         || !removable_ok(ports, removable))
-        return answer(GRIMHOLDI_OUTSIDE);
+        return answer(GRIMHOLDI_ANSWER_OUTSIDE);
     memset(area, 0, area_len);
     area[PORTS] = (uint8_t)ports;
     area[BUFFERS] = (uint8_t)buffers;
     area[POWER_GOOD] = (uint8_t)power_good;
     area[CURRENT] = (uint8_t)current;
     area[REMOVABLE] = (uint8_t)removable;
-    return answer(GRIMHOLDI_DONE);
+    return answer(GRIMHOLDI_ANSWER_DONE);
 }
 
 grimholdi_answer INPLACE(control)(uint8_t *area, size_t area_len,
@@ -1023,11 +1028,11 @@ grimholdi_answer INPLACE(control)(uint8_t *area, size_t area_len,
         return answer(refusal);
     p = packet_of(setup);
     if (wrong(area, p) != NOTHING_WRONG)
-        return answer(GRIMHOLDI_STALL);
+        return answer(GRIMHOLDI_ANSWER_STALL);
     return serve(area, lane, p, reply);
 }
 
-grimholdi_answer INPLACE(poll)(uint8_t *area, size_t area_len,
+grimholdi_answer INPLACE(poll)(const uint8_t *area, size_t area_len,
                                uint32_t lane,
                                uint8_t *reply, size_t reply_len)
 {
@@ -1038,7 +1043,7 @@ grimholdi_answer INPLACE(poll)(uint8_t *area, size_t area_len,
         return answer(refusal);
     bytes[0] = bitmap(area);
     if (bytes[0] == 0)
-        return answer(GRIMHOLDI_NAK);
+        return answer(GRIMHOLDI_ANSWER_NAK);
     return data(reply, bytes, sizeof bytes);
 }
 
@@ -1060,9 +1065,9 @@ grimholdi_answer INPLACE(start_split)(uint8_t *area, size_t area_len,
         return answer(refusal);
     c = choose(area, lane, address, endpoint, direction_of(pid));
     if (c.kind == GRIMHOLDI_WHY_HELD)
-        return answer(GRIMHOLDI_DONE);
+        return answer(GRIMHOLDI_ANSWER_DONE);
     if (c.kind == GRIMHOLDI_WHY_LIMIT || c.kind == GRIMHOLDI_WHY_NO_ROOM)
-        return answer(GRIMHOLDI_NAK);
+        return answer(GRIMHOLDI_ANSWER_NAK);
 
     buffer = area + buffer_at(area, c.buffer);
     buffer[PLACE] = renumber(area);
@@ -1075,7 +1080,7 @@ grimholdi_answer INPLACE(start_split)(uint8_t *area, size_t area_len,
     buffer[ADDRESS] = (uint8_t)address;
     buffer[ENDPOINT] = (uint8_t)endpoint;
     set_bytes(buffer, payload, payload_len);
-    return answer(GRIMHOLDI_DONE);
+    return answer(GRIMHOLDI_ANSWER_DONE);
 }
 
 grimholdi_answer INPLACE(complete_split)(uint8_t *area, size_t area_len,
@@ -1094,15 +1099,15 @@ grimholdi_answer INPLACE(complete_split)(uint8_t *area, size_t area_len,
         return answer(refusal);
     i = find(area, lane, address, endpoint, direction);
     if (i == area[BUFFERS])
-        return answer(GRIMHOLDI_STALL);
+        return answer(GRIMHOLDI_ANSWER_STALL);
     buffer = area + buffer_at(area, i);
     if (buffer[STATUS] == PENDING)
-        return answer(GRIMHOLDI_NYET);
+        return answer(GRIMHOLDI_ANSWER_NYET);
     buffer[STATUS] = OLD;
     if (is_data(buffer[RESULT]))
         a = data(reply, buffer + BYTES, buffer[LENGTH]);
     else
-        a = answer(GRIMHOLDI_HANDSHAKE);
+        a = answer(GRIMHOLDI_ANSWER_HANDSHAKE);
     a.pid = buffer[RESULT] == GRIMHOLDI_RESULT_FAILURE ? GRIMHOLDI_RESULT_STALL
                                                        : buffer[RESULT];
     return a;
@@ -1120,7 +1125,7 @@ grimholdi_answer INPLACE(launch)(uint8_t *area, size_t area_len,
         return answer(refusal);
     i = earliest(area);
     if (i == area[BUFFERS])
-        return answer(GRIMHOLDI_NAK);
+        return answer(GRIMHOLDI_ANSWER_NAK);
     set_low_side(area, LOW_RUNNING, (uint8_t)i);
     buffer = area + buffer_at(area, i);
     a = data(reply, buffer + BYTES, buffer[LENGTH]);
@@ -1151,7 +1156,7 @@ grimholdi_answer INPLACE(deliver)(uint8_t *area, size_t area_len,
         set_bytes(buffer, payload, payload_len);
     }
     set_low_side(area, LOW_IDLE, 0);
-    return answer(GRIMHOLDI_DONE);
+    return answer(GRIMHOLDI_ANSWER_DONE);
 }
 
 grimholdi_answer INPLACE(line_event)(uint8_t *area, size_t area_len,
@@ -1162,7 +1167,7 @@ grimholdi_answer INPLACE(line_event)(uint8_t *area, size_t area_len,
     if (refusal != 0)
         return answer(refusal);
     port_event(area + port_at(port), event);
-    return answer(GRIMHOLDI_DONE);
+    return answer(GRIMHOLDI_ANSWER_DONE);
 }
 
 grimholdi_answer INPLACE(tick)(uint8_t *area, size_t area_len)
@@ -1174,7 +1179,7 @@ grimholdi_answer INPLACE(tick)(uint8_t *area, size_t area_len)
         return answer(refusal);
     for (i = 1; i <= area[PORTS]; i++)
         port_tick(area + port_at(i));
-    return answer(GRIMHOLDI_DONE);
+    return answer(GRIMHOLDI_ANSWER_DONE);
 }
 
 grimholdi_answer INPLACE(bus_reset)(uint8_t *area, size_t area_len)
@@ -1184,7 +1189,7 @@ grimholdi_answer INPLACE(bus_reset)(uint8_t *area, size_t area_len)
     if (refusal != 0)
         return answer(refusal);
     memset(area + CONFIGURED, 0, area_len - CONFIGURED);
-    return answer(GRIMHOLDI_DONE);
+    return answer(GRIMHOLDI_ANSWER_DONE);
 }
 
 /* The explained calls. */

@@ -15,6 +15,7 @@
 #define INPLACE(name) inplace_##name
 #endif
 
+uint32_t INPLACE(version)(void);
 size_t INPLACE(area_length)(uint32_t ports, uint32_t buffers);
 grimholdi_answer INPLACE(new)(uint8_t *area, size_t area_len,
                               uint32_t ports, uint32_t buffers,
@@ -24,7 +25,7 @@ grimholdi_answer INPLACE(control)(uint8_t *area, size_t area_len,
                                   uint32_t lane,
                                   const uint8_t *setup, size_t setup_len,
                                   uint8_t *reply, size_t reply_len);
-grimholdi_answer INPLACE(poll)(uint8_t *area, size_t area_len,
+grimholdi_answer INPLACE(poll)(const uint8_t *area, size_t area_len,
                                uint32_t lane,
                                uint8_t *reply, size_t reply_len);
 grimholdi_answer INPLACE(start_split)(uint8_t *area, size_t area_len,

@@ -157,10 +157,10 @@ uint8_t INPLACE(block_start)(uint8_t *block, size_t block_len, uint32_t number)
 {
     if (block_len != GRIMHOLDI_BLOCK_LENGTH || number == 0
         || number > GRIMHOLDI_BLOCK_NUMBER_MAX)
-        return GRIMHOLDI_OUTSIDE;
+        return GRIMHOLDI_ANSWER_OUTSIDE;
     memset(block, 0, block_len);
     put_word(block + CHECK, number);
-    return GRIMHOLDI_DONE;
+    return GRIMHOLDI_ANSWER_DONE;
 }
 
 uint8_t INPLACE(block_add)(uint8_t *block, size_t block_len,
@@ -170,23 +170,23 @@ uint8_t INPLACE(block_add)(uint8_t *block, size_t block_len,
 
     if (!under_way(block, block_len) || record_len == 0
         || record_length(record, record_len) != record_len)
-        return GRIMHOLDI_OUTSIDE;
+        return GRIMHOLDI_ANSWER_OUTSIDE;
     used = word_at(block + COUNT);
     if (record_len > GRIMHOLDI_BLOCK_USED_MAX - used)
-        return GRIMHOLDI_NAK;
+        return GRIMHOLDI_ANSWER_NAK;
     memcpy(block + RECORDS + used, record, record_len);
     put_word(block + COUNT, used + (uint32_t)record_len);
-    return GRIMHOLDI_DONE;
+    return GRIMHOLDI_ANSWER_DONE;
 }
 
 uint8_t INPLACE(block_finish)(uint8_t *block, size_t block_len)
 {
     if (!under_way(block, block_len) || !count_ok(block) || !records_ok(block))
-        return GRIMHOLDI_OUTSIDE;
+        return GRIMHOLDI_ANSWER_OUTSIDE;
     put_word(block + NUMBER, word_at(block + CHECK));
     put_word(block + CHECK, 0);
     put_word(block + CHECK, 0u - sum(block));
-    return GRIMHOLDI_DONE;
+    return GRIMHOLDI_ANSWER_DONE;
 }
 
 /* Replay. */
@@ -281,11 +281,11 @@ grimholdi_replayed INPLACE(replay_block)(uint8_t *area, size_t area_len,
     grimholdi_replayed r = {0};
 
     if (INPLACE(why_tick)(area, area_len).kind != GRIMHOLDI_WHY_NONE)
-        r.number = GRIMHOLDI_OUTSIDE;
+        r.number = GRIMHOLDI_ANSWER_OUTSIDE;
     else if (answers_len < GRIMHOLDI_ANSWERS_LENGTH)
-        r.number = GRIMHOLDI_NO_SPACE;
+        r.number = GRIMHOLDI_ANSWER_NO_SPACE;
     else {
-        r.number = GRIMHOLDI_DONE;
+        r.number = GRIMHOLDI_ANSWER_DONE;
         r.refusal = refusal(block, block_len, place);
         r.active = INPLACE(active)(area);
         if (r.refusal == GRIMHOLDI_REFUSED_NOT)

@@ -39,7 +39,8 @@ typedef struct {
                                 uint32_t, uint32_t, uint32_t);
     grimholdi_answer (*control)(uint8_t *, size_t, uint32_t, const uint8_t *,
                                 size_t, uint8_t *, size_t);
-    grimholdi_answer (*poll)(uint8_t *, size_t, uint32_t, uint8_t *, size_t);
+    grimholdi_answer (*poll)(const uint8_t *, size_t, uint32_t, uint8_t *,
+                             size_t);
     grimholdi_answer (*start_split)(uint8_t *, size_t, uint32_t, uint32_t,
                                     uint32_t, uint32_t, uint32_t, uint32_t,
                                     uint32_t, const uint8_t *, size_t);
@@ -112,7 +113,7 @@ static void expect_kind(grimholdi_reason reason, uint8_t kind)
 
 static void expect_done(uint8_t number)
 {
-    if (number != GRIMHOLDI_DONE) {
+    if (number != GRIMHOLDI_ANSWER_DONE) {
         fprintf(stderr, "speed: block call answered %d\n", number);
         exit(1);
     }
@@ -137,25 +138,25 @@ static void stage(int which, int out, uint32_t lane, uint32_t address)
                                   out ? GRIMHOLDI_PID_OUT : GRIMHOLDI_PID_IN,
                                   GRIMHOLDI_TRANSFER_BULK, 0, 0, address,
                                   ENDPOINT, payload, out ? sizeof payload : 0),
-               GRIMHOLDI_DONE);
+               GRIMHOLDI_ANSWER_DONE);
         break;
     case LAUNCH:
         expect(calls->launch(area, area_len, reply, sizeof reply),
-               GRIMHOLDI_DATA);
+               GRIMHOLDI_ANSWER_DATA);
         break;
     case DELIVER:
         expect(calls->deliver(area, area_len,
                               out ? GRIMHOLDI_RESULT_ACK
                                   : GRIMHOLDI_RESULT_DATA0,
                               payload, out ? 0 : sizeof payload),
-               GRIMHOLDI_DONE);
+               GRIMHOLDI_ANSWER_DONE);
         break;
     case COMPLETE:
         expect(calls->complete_split(area, area_len, lane, address, ENDPOINT,
                                      out ? GRIMHOLDI_DIRECTION_OUT
                                          : GRIMHOLDI_DIRECTION_IN,
                                      reply, sizeof reply),
-               out ? GRIMHOLDI_HANDSHAKE : GRIMHOLDI_DATA);
+               out ? GRIMHOLDI_ANSWER_HANDSHAKE : GRIMHOLDI_ANSWER_DATA);
         break;
     }
 }
@@ -167,20 +168,22 @@ static void set_up(int out)
 
     area_len = calls->area_length(ports, buffers);
     expect(calls->new_hub(area, area_len, ports, buffers, 50, 100, 0),
-           GRIMHOLDI_DONE);
+           GRIMHOLDI_ANSWER_DONE);
     expect(request(GRIMHOLDI_TYPE_SET_CONFIGURATION,
                    GRIMHOLDI_REQUEST_SET_CONFIGURATION, 1, 0, 0),
-           GRIMHOLDI_DONE);
+           GRIMHOLDI_ANSWER_DONE);
     for (i = 1; i <= ports; i++) {
         expect(request(GRIMHOLDI_TYPE_SET_PORT, GRIMHOLDI_REQUEST_SET_FEATURE,
-                       GRIMHOLDI_PORT_POWER, (uint8_t)i, 0), GRIMHOLDI_DONE);
+                       GRIMHOLDI_PORT_POWER, (uint8_t)i, 0),
+               GRIMHOLDI_ANSWER_DONE);
         expect(calls->line_event(area, area_len, GRIMHOLDI_EVENT_ATTACH_FULL,
-                                 i), GRIMHOLDI_DONE);
+                                 i), GRIMHOLDI_ANSWER_DONE);
         expect(request(GRIMHOLDI_TYPE_SET_PORT, GRIMHOLDI_REQUEST_SET_FEATURE,
-                       GRIMHOLDI_PORT_RESET, (uint8_t)i, 0), GRIMHOLDI_DONE);
+                       GRIMHOLDI_PORT_RESET, (uint8_t)i, 0),
+               GRIMHOLDI_ANSWER_DONE);
     }
     for (i = 0; i < GRIMHOLDI_RESET_TICKS; i++)
-        expect(calls->tick(area, area_len), GRIMHOLDI_DONE);
+        expect(calls->tick(area, area_len), GRIMHOLDI_ANSWER_DONE);
 
     /* One whole transaction in buffer 0, then results in the others. */
     memset(payload, 0x5A, sizeof payload);
@@ -252,15 +255,15 @@ static void measure(int kind, int out, long loops)
             break;
         case POLL:
             expect(calls->poll(area, area_len, LANE, reply, sizeof reply),
-                   GRIMHOLDI_DATA);
+                   GRIMHOLDI_ANSWER_DATA);
             break;
         case STATUS:
             expect(request(GRIMHOLDI_TYPE_GET_PORT,
                            GRIMHOLDI_REQUEST_GET_STATUS, 0, (uint8_t)ports, 4),
-                   GRIMHOLDI_DATA);
+                   GRIMHOLDI_ANSWER_DATA);
             break;
         case TICK:
-            expect(calls->tick(area, area_len), GRIMHOLDI_DONE);
+            expect(calls->tick(area, area_len), GRIMHOLDI_ANSWER_DONE);
             break;
         default:
             memcpy(area, saved, area_len);

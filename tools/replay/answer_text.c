@@ -68,9 +68,9 @@ void print_answer(const call *made, const grimholdi_answer *answer,
                   const uint8_t *reply)
 {
     printf("%s", name_of(answer_names, answer->number));
-    if (answer->number == GRIMHOLDI_HANDSHAKE)
+    if (answer->number == GRIMHOLDI_ANSWER_HANDSHAKE)
         printf(" %s", name_of(result_names, answer->pid));
-    if (answer->number != GRIMHOLDI_DATA)
+    if (answer->number != GRIMHOLDI_ANSWER_DATA)
         return;
     if (made->kind == CALL_COMPLETE_SPLIT)
         printf(" %s", name_of(result_names, answer->pid));

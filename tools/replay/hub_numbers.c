@@ -83,8 +83,9 @@ static void name_numbers(const uint32_t *numbers, char fault[FAULT_LENGTH])
     char one[FAULT_LENGTH];
     unsigned i;
 
-    fault_says(fault, "%s (%d)", name_of(answer_names, GRIMHOLDI_OUTSIDE),
-               GRIMHOLDI_OUTSIDE);
+    fault_says(fault, "%s (%d)",
+               name_of(answer_names, GRIMHOLDI_ANSWER_OUTSIDE),
+               GRIMHOLDI_ANSWER_OUTSIDE);
     for (i = 0; i < HUB_NUMBERS; i++)
         if (number_fault((hub_number)i, numbers, one)) {
             add_text(fault, FAULT_LENGTH, before);
@@ -102,7 +103,7 @@ size_t make_hub(const uint32_t numbers[HUB_NUMBERS],
 
     if (grimholdi_new(area, length, numbers[HUB_PORTS], numbers[HUB_BUFFERS],
                       numbers[HUB_POWER_GOOD], numbers[HUB_CURRENT],
-                      numbers[HUB_REMOVABLE]).number == GRIMHOLDI_DONE)
+                      numbers[HUB_REMOVABLE]).number == GRIMHOLDI_ANSWER_DONE)
         return length;
     name_numbers(numbers, fault);
     return 0;

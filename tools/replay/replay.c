@@ -118,7 +118,7 @@ static int replay_blocks(session *of, FILE *file, const options *as,
         *last = grimholdi_replay_block(of->area, of->area_len, next_place(of),
                                        of->block, of->block_len, of->answers,
                                        sizeof of->answers);
-        if (last->number != GRIMHOLDI_DONE
+        if (last->number != GRIMHOLDI_ANSWER_DONE
             || last->refusal != GRIMHOLDI_REFUSED_NOT)
             return 1;
         write_answers(of, last->length, as->raw, live);
@@ -146,7 +146,7 @@ static int finish(const session *of, const char *name, int raw,
     if (of->read_error != 0)
         return complain(NOT_REPLAYED, "%s: block %lu can't be read: %s", name,
                         place, strerror(of->read_error));
-    if (last->number != GRIMHOLDI_DONE)
+    if (last->number != GRIMHOLDI_ANSWER_DONE)
         return complain(NOT_REPLAYED, "%s: block %lu: the library answers %s",
                         name, place, name_of(answer_names, last->number));
     if (last->refusal == GRIMHOLDI_REFUSED_NOT)

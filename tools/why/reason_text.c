@@ -113,14 +113,14 @@ static void print_ports(const grimholdi_reason *reason)
 /* The answer in words, where its name alone doesn't say it. */
 static void print_answer(const call *call_of, const grimholdi_answer *answer)
 {
-    if (answer->number == GRIMHOLDI_DONE)
+    if (answer->number == GRIMHOLDI_ANSWER_DONE)
         printf("done (ACK); ");
-    if (answer->number == GRIMHOLDI_NAK)
+    if (answer->number == GRIMHOLDI_ANSWER_NAK)
         printf("nothing to give; ");
-    if (answer->number == GRIMHOLDI_HANDSHAKE)
+    if (answer->number == GRIMHOLDI_ANSWER_HANDSHAKE)
         printf("the device's handshake is %s; ",
                name_of(result_names, answer->pid));
-    if (answer->number != GRIMHOLDI_DATA)
+    if (answer->number != GRIMHOLDI_ANSWER_DATA)
         return;
     if (call_of->kind == CALL_COMPLETE_SPLIT)
         printf("%s, ", name_of(result_names, answer->pid));

@@ -140,13 +140,13 @@ static void print_not_now(const area_view *view, const call *call_of)
 void print_refusal(unsigned number, const area_view *view, const call *call_of)
 {
     switch (number) {
-    case GRIMHOLDI_SILENT:
+    case GRIMHOLDI_ANSWER_SILENT:
         printf("SILENT: the hub is unconfigured\n");
         break;
-    case GRIMHOLDI_OUTSIDE:
+    case GRIMHOLDI_ANSWER_OUTSIDE:
         print_outside(view, call_of);
         break;
-    case GRIMHOLDI_NO_SPACE:
+    case GRIMHOLDI_ANSWER_NO_SPACE:
         printf("NO_SPACE: the reply space has " BYTE_COUNT "; 64 are "
                "needed\n", BYTE_COUNT_OF(call_of->room));
         break;

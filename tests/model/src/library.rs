@@ -50,7 +50,7 @@ extern "C" {
     fn grimholdi_area_length(ports: u32, buffers: u32) -> usize;
     fn grimholdi_new(area: *mut u8, area_len: usize, ports: u32, buffers: u32, power_good: u32, current: u32, removable: u32) -> RawAnswer;
     fn grimholdi_control(area: *mut u8, area_len: usize, lane: u32, setup: *const u8, setup_len: usize, reply: *mut u8, reply_len: usize) -> RawAnswer;
-    fn grimholdi_poll(area: *mut u8, area_len: usize, lane: u32, reply: *mut u8, reply_len: usize) -> RawAnswer;
+    fn grimholdi_poll(area: *const u8, area_len: usize, lane: u32, reply: *mut u8, reply_len: usize) -> RawAnswer;
     fn grimholdi_start_split(area: *mut u8, area_len: usize, lane: u32, pid: u32, transfer: u32, low_speed: u32, toggle: u32, address: u32, endpoint: u32, payload: *const u8, payload_len: usize) -> RawAnswer;
     fn grimholdi_complete_split(area: *mut u8, area_len: usize, lane: u32, address: u32, endpoint: u32, direction: u32, reply: *mut u8, reply_len: usize) -> RawAnswer;
     fn grimholdi_launch(area: *mut u8, area_len: usize, reply: *mut u8, reply_len: usize) -> RawAnswer;
