@@ -16,11 +16,11 @@ use Rattle.buffer.specs.declared.Buffer.{Buffer}
 use Rattle.translator.specs.declared.LowSide.{LowSide}
 use Rattle.hub.specs.declared.Hub.{Hub}
 use Rattle.area.specs.declared.Read.{Read}
-use Rattle.taken.specs.Rows.{flat}
+use Rattle.payload.specs.Bytes.{flat}
 use Rattle.area.specs.Written.{portBytes, bufferBytes, headBytes, written, writtenOver}
-use Rattle.taken.specs.Read.{lowOf, portsOf, buffersOf, portPart, bufferPart, decoded, accepts}
+use Rattle.area_check.specs.Read.{lowOf, portsOf, buffersOf, portPart, bufferPart, decoded, accepts}
 use Rattle.area.specs.Read.{refusal, readOf}
-use Rattle.taken.proofs.Rows.{put-next}
+use Rattle.area_check.proofs.Rows.{put-next}
 
 -- ---- the ways of `read_area` and what it calls
 

@@ -9,7 +9,7 @@ use lib.Seq.{length-take-le, take-all, drop-at, drop-drop}
 use lib.Dec.{eqb, ltb}
 use borrow.Author.Tests.{eqb-true, eqb-false, ltb-true}
 use Rattle.port.specs.Status.{byteOf}
-use Rattle.port.specs.Claims.{bitsOf}
+use Rattle.port.specs.Words.{bitsOf}
 use Rattle.port.proofs.Bits.{bits-back}
 use Rattle.payload.specs.Payload.{padded}
 use Rattle.buffer.specs.declared.Lane.{Lane}
@@ -29,11 +29,11 @@ use Rattle.translator.proofs.Kept.{slot-le}
 use Rattle.numbers.specs.Named.{isPid, pidFrom, isType, typeFrom, isResult, resultFrom}
 use Rattle.numbers.specs.Written.{typeNumber, resultWritten}
 use Rattle.numbers.proofs.Laws.{numbers-claims}
-use Rattle.taken.specs.Rows.{blank}
+use Rattle.area_check.specs.Rows.{blank}
 use Rattle.area.specs.Written.{heldBytes, slotBytes, bufferBytes}
-use Rattle.taken.specs.Read.{isOdd, heldSplit, slotNamed, slotOf, bufferOf, emptyFits, heldFits, namesFit, bufferFits}
-use Rattle.taken.proofs.Rows.{blank-to, blank-of}
-use Rattle.taken.proofs.Parts.{three}
+use Rattle.area_check.specs.Read.{isOdd, heldSplit, slotNamed, slotOf, bufferOf, emptyFits, heldFits, namesFit, bufferFits}
+use Rattle.area_check.proofs.Rows.{blank-to, blank-of}
+use Rattle.area_check.proofs.Parts.{three}
 use Rattle.area.proofs.Ports.{bits-whole}
 
 -- ---- numbers and names

@@ -2,13 +2,14 @@
 use mathlib.Core.Path.{_≡_, refl, sym, ap, _∙_}
 use mathlib.Core.Bool.{true, false, true≢false}
 use Rattle.payload.specs.Payload.{padded, payloadOf}
-use Rattle.buffer.specs.Key.{sameKey}
+use Rattle.buffer.specs.Same.{sameKey}
 use Rattle.buffer.specs.Lengths.{numbersFit, startFits, resultLength}
 use Rattle.hub.specs.declared.Hub.{Hub}
 use Rattle.hub.specs.Hub.{newFits}
 use Rattle.hub.specs.Valid.{ValidHub}
-use Rattle.taken.specs.Rows.{flat, parts, every, blank}
-use Rattle.taken.specs.Read.{markedPort, portOf, heldSplit, slotOf, bufferOf, noPorts, noBuffers, portsOf, buffersOf, decoded, portFits, namesFit, bufferFits, clashing, filledBy, runs, headFits, sized, rowsFit, accepts}
+use Rattle.payload.specs.Bytes.{flat}
+use Rattle.area_check.specs.Rows.{parts, every, blank}
+use Rattle.area_check.specs.Read.{markedPort, portOf, heldSplit, slotOf, bufferOf, noPorts, noBuffers, portsOf, buffersOf, decoded, portFits, namesFit, bufferFits, clashing, filledBy, runs, headFits, sized, rowsFit, accepts}
 use Rattle.area.specs.declared.Read.{Read}
 use Rattle.area.specs.Written.{portBytes, bufferBytes, headBytes, written}
 use Rattle.area.specs.Read.{refusal, readOf}

@@ -10,9 +10,9 @@ use lib.Dec.{eqb, ltb}
 use borrow.Author.Tests.{eq-eqb, ne-eqb, not-true, le-leb}
 use Rattle.payload.specs.Payload.{padded}
 use Rattle.port.specs.declared.Port.{Port}
-use Rattle.port.specs.Status.{bit}
+use Rattle.bools.specs.Bit.{bit}
 use Rattle.port.specs.Reaction.{newPort}
-use Rattle.port.specs.Claims.{TimerBelowEnd}
+use Rattle.port.specs.Words.{TimerBelowEnd}
 use Rattle.buffer.specs.declared.Slot.{Slot}
 use Rattle.buffer.specs.declared.Buffer.{Buffer}
 use Rattle.buffer.specs.Buffer.{vacant}
@@ -25,15 +25,15 @@ use Rattle.hub.specs.declared.Identity.{Identity}
 use Rattle.hub.specs.declared.Hub.{Hub}
 use Rattle.hub.specs.Valid.{ValidHub, isNotConfigured}
 use Rattle.area.specs.declared.Read.{Read}
-use Rattle.taken.specs.Rows.{flat, parts, every}
+use Rattle.payload.specs.Bytes.{flat}
+use Rattle.area_check.specs.Rows.{parts, every}
 use Rattle.area.specs.Written.{portBytes, bufferBytes, headBytes, written, areaLength, writtenOver}
-use Rattle.taken.specs.Read.{portOf, bufferOf, lowOf, noPorts, noBuffers, portsOf, buffersOf, portPart, bufferPart, decoded}
-use Rattle.taken.specs.Read.{portFits, bufferFits, clashing, crowded, runs, headFits, sized, rowsFit, accepts}
+use Rattle.area_check.specs.Read.{portOf, bufferOf, lowOf, noPorts, noBuffers, portsOf, buffersOf, portPart, bufferPart, decoded, portFits, bufferFits, clashing, crowded, runs, headFits, sized, rowsFit, accepts}
 use Rattle.area.specs.Read.{refusal, readOf}
 use Rattle.area.specs.Claims.{AreaExact}
-use Rattle.taken.proofs.Rows.{All, all-map, all-take, row-each, row-used, row-spare, row-long, row-tail, parts-length, Kept, flat-length, parts-flat, every-to, every-of}
-use Rattle.taken.proofs.Sized.{Counts, counts, headed, Sized, sized-to}
-use Rattle.taken.proofs.Ties.{vacant-buffers, four-long}
+use Rattle.area_check.proofs.Rows.{All, all-map, all-take, row-each, row-used, row-spare, row-long, row-tail, parts-length, Kept, flat-length, parts-flat, every-to, every-of}
+use Rattle.area_check.proofs.Sized.{Counts, counts, headed, Sized, sized-to}
+use Rattle.area_check.proofs.Ties.{vacant-buffers, four-long}
 use Rattle.area.proofs.Ports.{PortValid, port-again, port-size, port-to, port-of}
 use Rattle.area.proofs.Buffers.{first-eight, buffer-size, buffer-again, buffer-to, buffer-of}
 use Rattle.area.proofs.Lanes.{lanes-to, lanes-of}

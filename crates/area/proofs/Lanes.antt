@@ -11,13 +11,14 @@ use Rattle.buffer.specs.declared.Lane.the-variants.{Zero, One}
 use Rattle.buffer.specs.declared.Slot.{Slot}
 use Rattle.buffer.specs.declared.Buffer.{Buffer}
 use Rattle.buffer.specs.Buffer.{vacant, activeIn}
-use Rattle.translator.specs.Order.{bit, tally}
+use Rattle.bools.specs.Bit.{bit}
+use Rattle.translator.specs.Translator.{tally}
 use Rattle.translator.specs.Limit.{heldBy}
 use Rattle.translator.proofs.Tallies.{tally-take}
-use Rattle.taken.specs.Rows.{parts, every}
-use Rattle.taken.specs.Read.{slotOf, bufferOf, noBuffers, buffersOf, filledBy, crowded}
-use Rattle.taken.proofs.Rows.{parts-length, row-spare}
-use Rattle.taken.proofs.Ties.{vacant-buffers}
+use Rattle.area_check.specs.Rows.{parts, every}
+use Rattle.area_check.specs.Read.{slotOf, bufferOf, noBuffers, buffersOf, filledBy, crowded}
+use Rattle.area_check.proofs.Rows.{parts-length, row-spare}
+use Rattle.area_check.proofs.Ties.{vacant-buffers}
 
 bit-le : (b : Bool) → bit b ≤ 1
 bit-le true = omega arith

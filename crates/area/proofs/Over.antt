@@ -9,8 +9,8 @@ use lib.Seq.{drop-drop, drop-at, take-at, split-at}
 use lib.Dec.{leb}
 use borrow.Author.Tests.{le-leb, lt-leb}
 use borrow.Rule.Slice.PartMut.{putMid}
-use Rattle.taken.specs.Rows.{flat}
-use Rattle.taken.proofs.Rows.{flat-append}
+use Rattle.payload.specs.Bytes.{flat}
+use Rattle.area_check.proofs.Rows.{flat-append}
 use Rattle.area.specs.Written.{placed}
 
 pub placed-is : (n k : ℕ) (o p : List ℕ) → putMid n k o p ≡ placed n k p o

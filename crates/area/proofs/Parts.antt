@@ -10,10 +10,10 @@ use Rattle.buffer.specs.declared.Slot.{Slot}
 use Rattle.buffer.specs.declared.Slot.the-variants.{Empty}
 use Rattle.buffer.specs.declared.Buffer.{Buffer}
 use Rattle.buffer.specs.Buffer.{vacant}
-use Rattle.taken.specs.Read.{slotOf, bufferOf}
+use Rattle.area_check.specs.Read.{slotOf, bufferOf}
 use Rattle.area.specs.Written.{slotBytes, bufferBytes, bufferPut}
 use Rattle.area.specs.Read.{bufferFrom}
-use Rattle.taken.proofs.Rows.{put-next}
+use Rattle.area_check.proofs.Rows.{put-next}
 use Rattle.area.proofs.Over.{over-none, over-some, over-put, cut-size}
 
 -- a buffer's two parts are its written form

@@ -12,13 +12,14 @@ use Rattle.port.specs.declared.Speed.the-variants.{Low, Full, High}
 use Rattle.port.specs.declared.PortState.{PortState}
 use Rattle.port.specs.declared.PortState.the-variants.{NotConfigured, PoweredOff, Disconnected, Disabled, Resetting, Enabled, Suspended, Resuming}
 use Rattle.port.specs.declared.Port.{Port}
-use Rattle.port.specs.Status.{bit, byteOf}
-use Rattle.port.specs.Claims.{TimerBelowEnd, bitsOf}
+use Rattle.bools.specs.Bit.{bit}
+use Rattle.port.specs.Status.{byteOf}
+use Rattle.port.specs.Words.{TimerBelowEnd, bitsOf}
 use Rattle.port.proofs.Bits.{bits-back}
 use Rattle.translator.proofs.Lists.{four}
 use Rattle.hub.specs.Valid.{isNotConfigured}
 use Rattle.area.specs.Written.{stateByte, speedNumber, speedByte, ticksByte, marksByte, portBytes}
-use Rattle.taken.specs.Read.{isOdd, speedOf, stateOf, markedPort, portOf, speedsOf, endOf, agrees, stateFits, portFits}
+use Rattle.area_check.specs.Read.{isOdd, speedOf, stateOf, markedPort, portOf, speedsOf, endOf, agrees, stateFits, portFits}
 
 -- ---- bits
 

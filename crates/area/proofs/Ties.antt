@@ -20,11 +20,11 @@ use Rattle.translator.specs.declared.LowSide.{LowSide}
 use Rattle.translator.specs.declared.LowSide.the-variants.{Idle, Running, Abandoned}
 use Rattle.translator.specs.Slots.{slotsIn}
 use Rattle.translator.specs.Translator.{at}
-use Rattle.translator.specs.Order.{atPlace}
+use Rattle.translator.specs.Valid.{atPlace}
 use Rattle.translator.specs.Valid.{Apart, RunsPending}
 use Rattle.translator.proofs.At.{inside}
 use Rattle.area.specs.Written.{lowByte, runningByte}
-use Rattle.taken.specs.Read.{lowOf, clash, clashAny, clashing, runs, lowFits}
+use Rattle.area_check.specs.Read.{lowOf, clash, clashAny, clashing, runs, lowFits}
 
 -- ---- slots and buffers
 

@@ -1,4 +1,4 @@
--- Reading an area. A reader must believe: an area that is taken gives the hub that its bytes stand for, and any other gives none.
+-- Internal, pinned by `AreaExact` (Claims.antt): reading an area. One that is taken gives the hub that its bytes stand for, any other none.
 use Prim.Native.Nat.{ℕ, _+_}
 use mathlib.Core.List.{List}
 use mathlib.Core.Bool.{true, false, cond}
@@ -7,7 +7,7 @@ use lib.Dec.{leb}
 use Rattle.buffer.specs.declared.Buffer.{Buffer}
 use Rattle.buffer.specs.Buffer.{vacant}
 use Rattle.hub.specs.Hub.{hubOf}
-use Rattle.taken.specs.Read.{bufferOf, decoded, accepts}
+use Rattle.area_check.specs.Read.{bufferOf, decoded, accepts}
 use Rattle.area.specs.declared.Read.{Read}
 
 -- a refused area gives no hub

@@ -10,7 +10,8 @@ use Rattle.port.specs.declared.Speed.the-variants.{Low, Full, High}
 use Rattle.port.specs.declared.PortState.{PortState}
 use Rattle.port.specs.declared.PortState.the-variants.{NotConfigured, PoweredOff, Disconnected, Disabled, Resetting, Enabled, Suspended, Resuming}
 use Rattle.port.specs.declared.Port.{Port}
-use Rattle.port.specs.Status.{bit, byteOf}
+use Rattle.bools.specs.Bit.{bit}
+use Rattle.port.specs.Status.{byteOf}
 use Rattle.buffer.specs.declared.Lane.the-variants.{One}
 use Rattle.buffer.specs.declared.StartSplit.{StartSplit}
 use Rattle.buffer.specs.declared.Slot.{Slot}
@@ -23,7 +24,7 @@ use Rattle.translator.specs.Answers.{pidNumber}
 use Rattle.numbers.specs.Written.{typeNumber, resultWritten}
 use Rattle.hub.specs.declared.Identity.{Identity}
 use Rattle.hub.specs.declared.Hub.{Hub}
-use Rattle.taken.specs.Rows.{flat}
+use Rattle.payload.specs.Bytes.{flat}
 
 -- ---- a port, 4 bytes
 

@@ -3,11 +3,12 @@ ghost use mathlib.Core.Path.{_≡_};
 ghost use mathlib.Core.List.{[], _∷_};
 ghost use Prim.Native.Nat.{_+_, _*_, _≤_, min};
 ghost use lib.ListN.{length, getD, take};
-ghost use Rattle.port.specs.Status.{bit, byteOf};
+ghost use Rattle.bools.specs.Bit.{bit};
+ghost use Rattle.port.specs.Status.{byteOf};
 ghost use Rattle.numbers.specs.Named.{pidFrom, typeFrom, resultFrom};
-ghost use Rattle.taken.specs.Rows.{flat};
+ghost use Rattle.payload.specs.Bytes.{flat};
 ghost use Rattle.area.specs.Written.{stateByte, speedNumber, speedByte, ticksByte, marksByte, portBytes, heldBytes, slotBytes, bufferBytes, lowByte, runningByte, headBytes, bufferPut, areaLength, writtenOver};
-ghost use Rattle.taken.specs.Read.{speedOf, stateOf, markedPort, portOf, heldSplit, slotOf, bufferOf, lowOf, portsOf, buffersOf, decoded};
+ghost use Rattle.area_check.specs.Read.{speedOf, stateOf, markedPort, portOf, heldSplit, slotOf, bufferOf, lowOf, portsOf, buffersOf, decoded};
 ghost use Rattle.area.specs.Read.{bufferFrom, refusal, readOf};
 ghost use Rattle.area.specs.Claims.{AreaExact};
 ghost use Rattle.area.specs.Cases.{ValidCases};
@@ -44,13 +45,6 @@ fn fill(dst: &mut [u8], src: &[u8])
     ensures { λ _. ⌜ now (dst .exit) ≡ now (src .entry) ⌝ }
 {
     bytes::copy(src, dst);
-}
-
-fn bit_of(b: bool) -> u8
-    ensures { λ r. ⌜ r ≡ bit b ⌝ }
-    ensures small { λ r. ⌜ r ≤ 1 ⌝ }
-{
-    if b { 1 } else { 0 }
 }
 
 fn lesser(a: usize, b: usize) -> usize
@@ -174,12 +168,12 @@ fn ticks_byte(s: PortState) -> u8
 fn marks_byte(p: Port) -> u8
     ensures { λ r. ⌜ r ≡ marksByte p ⌝ }
 {
-    bit_of(p.changes.connection)
-        + 2 * bit_of(p.changes.enable)
-        + 4 * bit_of(p.changes.suspend)
-        + 8 * bit_of(p.changes.overcurrent)
-        + 16 * bit_of(p.changes.reset)
-        + 32 * bit_of(p.overcurrent)
+    bools::bit_of(p.changes.connection)
+        + 2 * bools::bit_of(p.changes.enable)
+        + 4 * bools::bit_of(p.changes.suspend)
+        + 8 * bools::bit_of(p.changes.overcurrent)
+        + 16 * bools::bit_of(p.changes.reset)
+        + 32 * bools::bit_of(p.overcurrent)
 }
 
 fn port_bytes(p: Port) -> [u8; 4]
@@ -216,7 +210,7 @@ fn held_split(b: &[u8]) -> StartSplit
     let flags = b[3];
     let half = flags / 2;
     StartSplit {
-        lane: taken::lane_in(flags),
+        lane: area_check::lane_in(flags),
         pid: pid_of(b[1]),
         transfer: type_of(b[2]),
         lowspeed: flags % 2 == 1,
@@ -257,7 +251,7 @@ fn buffer_of(b: &[u8]) -> Buffer
 fn flags_byte(lowspeed: bool, toggle: bool, one: bool) -> u8
     ensures { λ r. ⌜ r ≡ byteOf (lowspeed ∷ toggle ∷ one ∷ []) ⌝ }
 {
-    bit_of(lowspeed) + 2 * (bit_of(toggle) + 2 * bit_of(one))
+    bools::bit_of(lowspeed) + 2 * (bools::bit_of(toggle) + 2 * bools::bit_of(one))
 }
 
 fn held_bytes(status: u8, split: StartSplit, last: u8, len: u8) -> [u8; 8]
@@ -440,7 +434,7 @@ fn head_bytes(identity: Identity, configured: bool, count: BufferCount, low: Low
         identity.powergood,
         identity.current,
         identity.removable,
-        bit_of(configured),
+        bools::bit_of(configured),
         low_byte(low),
         running_byte(low),
     ]
@@ -521,7 +515,7 @@ fn refuse() -> Read
 pub fn read_area(area: &[u8]) -> Read
     ensures { λ r. ⌜ r ≡ readOf (now (area .entry)) ⌝ }
 {
-    if taken::is_taken(area) {
+    if area_check::is_area(area) {
         let hub = decode(area);
         return Read { ok: true, hub };
     }

@@ -8,7 +8,9 @@ use Rattle.buffer.specs.declared.Lane.the-variants.{Zero, One}
 use Rattle.buffer.specs.declared.Direction.{Direction}
 use Rattle.buffer.specs.declared.Direction.the-variants as direction
 use Rattle.buffer.specs.declared.Key.{Key}
-use Rattle.buffer.specs.Key.{sameLane, sameDirection, sameKey, KeyTest}
+use Rattle.buffer.specs.Same.{sameDirection, sameKey}
+use Rattle.buffer.specs.Claims.{KeyTest}
+use Rattle.buffer.specs.Key.{sameLane}
 
 pub lane-true : (a b : Lane) → sameLane a b ≡ true → a ≡ b
 lane-true Zero Zero e = refl

@@ -1,14 +1,13 @@
 -- One buffer. A reader must believe: it is empty, pending, ready or old; all but empty hold a key.
-use mathlib.Core.Bool.{Bool, true, false, cond}
+use mathlib.Core.Bool.{Bool, true, false}
 use Rattle.payload.specs.Payload.{noPayload}
 use Rattle.buffer.specs.declared.Lane.{Lane}
 use Rattle.buffer.specs.declared.Key.{Key}
 use Rattle.buffer.specs.declared.Slot.{Slot}
 use Rattle.buffer.specs.declared.Slot.the-variants.{Empty, Pending, Ready, Old}
 use Rattle.buffer.specs.declared.Buffer.{Buffer}
-use Rattle.buffer.specs.declared.Standing.{Standing}
-use Rattle.buffer.specs.declared.Standing.the-variants.{Busy, Free, Holds, Reusable}
-use Rattle.buffer.specs.Key.{keyOf, sameLane, sameKey}
+use Rattle.buffer.specs.Same.{sameKey}
+use Rattle.buffer.specs.Key.{keyOf, sameLane}
 
 -- an empty buffer
 abbrev pub vacant : Buffer
@@ -54,10 +53,3 @@ holds k Empty = false
 holds k (Pending s p) = sameKey (keyOf s) k
 holds k (Ready s r) = sameKey (keyOf s) k
 holds k (Old s r) = sameKey (keyOf s) k
-
--- how it stands to the key k, for a search that looks at it once
-abbrev pub standing : Key → Slot → Standing
-standing k Empty = Free
-standing k (Pending s p) = cond (sameKey (keyOf s) k) Holds Busy
-standing k (Ready s r) = cond (sameKey (keyOf s) k) Holds Busy
-standing k (Old s r) = cond (sameKey (keyOf s) k) Reusable Free

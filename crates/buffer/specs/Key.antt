@@ -1,9 +1,6 @@
 -- Keys. A reader must believe: a key is lane, address, endpoint and direction, and the direction follows from the PID.
 use Prim.Native.Nat.{ℕ}
-use mathlib.Core.Path.{_≡_}
-use mathlib.Core.Logic.{_↔_}
-use mathlib.Core.Bool.{Bool, true, false, _&&_}
-use lib.Dec.{eqb}
+use mathlib.Core.Bool.{Bool, true, false}
 use Rattle.buffer.specs.declared.Lane.{Lane}
 use Rattle.buffer.specs.declared.Lane.the-variants.{Zero, One}
 use Rattle.buffer.specs.declared.DeviceAddress.{DeviceAddress}
@@ -32,19 +29,3 @@ sameLane Zero Zero = true
 sameLane Zero One = false
 sameLane One Zero = false
 sameLane One One = true
-
-abbrev pub sameDirection : Direction → Direction → Bool
-sameDirection direction.Out direction.Out = true
-sameDirection direction.Out direction.In = false
-sameDirection direction.In direction.Out = false
-sameDirection direction.In direction.In = true
-
--- the one test of keys
-unfoldable pub sameKey : Key → Key → Bool
-sameKey a b =
-    sameLane (a .lane) (b .lane)
-    && (eqb (a .address .0) (b .address .0) && (eqb (a .endpoint) (b .endpoint) && sameDirection (a .direction) (b .direction)))
-
--- it holds exactly if the keys are equal
-abbrev pub KeyTest : Type 0
-KeyTest = (a b : Key) → (sameKey a b ≡ true) ↔ (a ≡ b)

@@ -1,5 +1,8 @@
 pub mod Key
+pub mod Same
+pub mod Claims
 pub mod Lengths
 pub mod Buffer
+pub mod Standing
 pub mod Valid
 pub mod Words

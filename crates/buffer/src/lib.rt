@@ -1,8 +1,11 @@
 // Keys, start-splits, results, and one buffer of the transaction translator, by value.
 ghost use mathlib.Core.Path.{_≡_};
-ghost use Rattle.buffer.specs.Key.{directionOf, keyWith, keyOf, sameLane, sameDirection, sameKey, KeyTest};
+ghost use Rattle.buffer.specs.Same.{sameDirection, sameKey};
+ghost use Rattle.buffer.specs.Claims.{KeyTest};
+ghost use Rattle.buffer.specs.Key.{directionOf, keyWith, keyOf, sameLane};
 ghost use Rattle.buffer.specs.Lengths.{typeFits, numbersFit, startLength, startFits, isData, resultLength, suits};
-ghost use Rattle.buffer.specs.Buffer.{vacant, inLane, activeIn, holds, standing};
+ghost use Rattle.buffer.specs.Standing.{standing};
+ghost use Rattle.buffer.specs.Buffer.{vacant, inLane, activeIn, holds};
 use payload::Payload;
 
 // The number of a buffer, counted from 0. No port number and no device address can stand for it.
@@ -162,9 +165,9 @@ impl Key {
         let there = other.lane;
         let mine = self.direction;
         let theirs = other.direction;
-        logic::both(
+        bools::both(
             here.same(there),
-            logic::both(self.endpoint == other.endpoint, mine.same(theirs)),
+            bools::both(self.endpoint == other.endpoint, mine.same(theirs)),
         )
     }
 }
@@ -199,8 +202,8 @@ impl StartSplit {
     {
         let pid = self.pid;
         let transfer = self.transfer;
-        logic::both(
-            logic::both(self.address.0 < 128, self.endpoint < 16),
+        bools::both(
+            bools::both(self.address.0 < 128, self.endpoint < 16),
             pid.goes_with(transfer),
         )
     }
@@ -210,7 +213,7 @@ impl StartSplit {
         ensures { λ r. ⌜ r ≡ startFits self len ⌝ }
     {
         let pid = self.pid;
-        logic::both(self.has_numbers(), pid.carries(len))
+        bools::both(self.has_numbers(), pid.carries(len))
     }
 }
 
@@ -258,7 +261,7 @@ impl DeviceResult {
     pub fn carries(self, len: usize) -> bool
         ensures { λ r. ⌜ r ≡ resultLength self len ⌝ }
     {
-        logic::both(len <= 64, logic::either(self.is_data(), len == 0))
+        bools::both(len <= 64, bools::either(self.is_data(), len == 0))
     }
 
     // Whether it can be the result of a transaction with this PID.

@@ -15,7 +15,8 @@ use Rattle.call_bytes.specs.declared.Recorded.{Recorded}
 use Rattle.call_bytes.specs.Words.{half, words, wordAt, halfAt, wordsAt}
 use Rattle.call_bytes.specs.Table.{tagOf, kinds, withTag, kindOf, numbersOf, carries, Form, formOf, callOf, isKnown}
 use Rattle.call_bytes.specs.Written.{tailOf, writtenForm, written, Bytes, Fits}
-use Rattle.call_bytes.specs.Read.{headOf, startOf, sizeIn, isRecord, seven, recordedAs, noRecord, readOf, callIn, Takes, Starts, RecordExact}
+use Rattle.call_bytes.specs.Claims.{Takes, Starts, RecordExact}
+use Rattle.call_bytes.specs.Read.{headOf, startOf, sizeIn, isRecord, seven, recordedAs, noRecord, readOf, callIn}
 use Rattle.call_bytes.proofs.Words.{half-of, half-take, words-take, length-words, words-back}
 use Rattle.call_bytes.proofs.Reading.{number-at, number-none, head-start}
 

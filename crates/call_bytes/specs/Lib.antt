@@ -3,3 +3,4 @@ pub mod Table
 pub mod Written
 pub mod Read
 pub mod Cases
+pub mod Claims

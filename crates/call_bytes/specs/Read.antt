@@ -1,10 +1,7 @@
--- Reading a record at the start of bytes. A reader need not believe `readOf`: `RecordExact` says that a record is taken exactly if the bytes
--- start with the written form of a call, and then it is that call, with that form's length.
-use Prim.Native.Nat.{ℕ, _+_, _*_, _≤_}
-use mathlib.Core.Path.{_≡_}
-use mathlib.Core.Logic.{_↔_}
-use mathlib.Core.List.{List, [], _∷_, _++_}
-use mathlib.Core.Bool.{Bool, true, false, cond, _&&_}
+-- Internal, pinned by `RecordExact` (Claims.antt): reading a record at the start of bytes.
+use Prim.Native.Nat.{ℕ, _+_, _*_}
+use mathlib.Core.List.{List, [], _∷_}
+use mathlib.Core.Bool.{Bool, cond, _&&_}
 use lib.Dec.{leb}
 use lib.ListN.{length, getD, take, drop, replicate}
 use Rattle.hub.specs.Call.{Call}
@@ -12,8 +9,7 @@ use Rattle.call_bytes.specs.declared.CallKind.{CallKind}
 use Rattle.call_bytes.specs.declared.CallKind.the-variants as kind
 use Rattle.call_bytes.specs.declared.Recorded.{Recorded}
 use Rattle.call_bytes.specs.Words.{halfAt, wordsAt}
-use Rattle.call_bytes.specs.Table.{kindOf, numbersOf, carries, formOf, callOf, isKnown}
-use Rattle.call_bytes.specs.Written.{written, Bytes, Fits}
+use Rattle.call_bytes.specs.Table.{kindOf, numbersOf, carries, callOf, isKnown}
 
 -- where the numbers end
 abbrev pub headOf : CallKind → ℕ
@@ -49,27 +45,3 @@ readOf l = let k = kindOf (getD l 0 0) in cond (isRecord k l) (recordedAs k l) n
 -- the call of a record that was taken from l
 abbrev pub callIn : Recorded → List ℕ → Call
 callIn r l = callOf (r .kind) (r .numbers) (take (r .size) (drop (r .start) l))
-
--- l starts with a record: the call c, n bytes long
-pub record Takes (l : List ℕ) (c : Call) (n : ℕ) : Type 0 where
-  pub known : isKnown (readOf l .kind) ≡ true
-  pub call : callIn (readOf l) l ≡ c
-  pub size : readOf l .length ≡ n
-
--- the first n bytes of l are the written form of c
-pub record Starts (l : List ℕ) (c : Call) (n : ℕ) : Type 0 where
-  pub fits : Fits c
-  pub size : n ≡ length (written c)
-  pub form : take n l ≡ written c
-
-pub record RecordExact : Type 0 where
-  -- a record is taken exactly if it is the written form of a call
-  pub exact : (l : List ℕ) (c : Call) (n : ℕ) → Bytes l → Takes l c n ↔ Starts l c n
-  -- and refused exactly if it is that of none
-  pub refused : (l : List ℕ) → Bytes l → isKnown (readOf l .kind) ≡ false ↔ ((c : Call) (n : ℕ) → ¬ (Starts l c n))
-  -- writing then reading gives the call back, whatever follows
-  pub again : (c : Call) (l : List ℕ) → Fits c → Takes (written c ++ l) c (length (written c))
-  -- a different form for each call
-  pub apart : (c d : Call) → Fits c → Fits d → written c ≡ written d → c ≡ d
-  -- at most 31 bytes beyond the call's setup or payload bytes (100 are allowed)
-  pub short : (c : Call) → length (written c) ≤ 31 + length (formOf c .bytes)

@@ -4,7 +4,8 @@ ghost use Prim.Native.Nat.{_+_, _*_, _≤_, _<_};
 ghost use lib.ListN.{length, getD};
 ghost use Rattle.call_bytes.specs.Words.{wordAt, halfAt, wordsAt};
 ghost use Rattle.call_bytes.specs.Table.{laid, layoutOf, kindOf, numbersOf, carries, isKnown};
-ghost use Rattle.call_bytes.specs.Read.{startOf, sizeIn, seven, recordedAs, noRecord, readOf, RecordExact};
+ghost use Rattle.call_bytes.specs.Claims.{RecordExact};
+ghost use Rattle.call_bytes.specs.Read.{startOf, sizeIn, seven, recordedAs, noRecord, readOf};
 ghost use Rattle.call_bytes.specs.Cases.{RecordCases};
 
 // The calls.

@@ -12,7 +12,8 @@ use Rattle.payload.specs.Payload as payload
 use Rattle.hub.specs.declared.Hub.{Hub}
 use Rattle.hub.specs.Call as hub
 use Rattle.hub.specs.Call.{Call, Control, Poll, Start, Complete, Launch, Deliver, Event as LineEvent, Tick, BusReset, Outcome, refuse}
-use Rattle.hub.specs.Step.{within, roomy, heard, fitting, served, firstRefusal, step}
+use Rattle.hub.specs.Checks.{within, hasSpace, notSilent, fitting, firstRefusal}
+use Rattle.hub.specs.Step.{served, step}
 use Rattle.hub.specs.Valid.{ValidHub}
 use Rattle.hub.proofs.Order.{by-step}
 use Rattle.hub.proofs.Claimed.{hub-claims}
@@ -26,7 +27,7 @@ use Rattle.runs.specs.ErrorReports.{AllShow, ErrorReports}
 use Rattle.runs.specs.Tally.{tallyOf, activeBuffers, past, TallyHolds}
 use Rattle.runs.specs.Share.{holding, AllShared, LaneShare}
 use Rattle.runs.proofs.Theorems.{demand-3}
-use Rattle.runs.proofs.LineSteps.{launch-order}
+use Rattle.runs.proofs.AcceptanceSteps.{launch-order}
 use Rattle.runs.proofs.Reporting.{error-reports}
 use Rattle.runs.proofs.Reaching.{reached}
 use Rattle.runs.proofs.Tallied.{tally-holds}
@@ -35,10 +36,11 @@ use Rattle.area.specs.Written.{written}
 use Rattle.area.specs.declared.Read.{Read}
 use Rattle.area.specs.Read.{readOf}
 use Rattle.area.proofs.Exact.{area-exact}
-use Rattle.grimholdi.specs.Entry.{Gave, gaveBy}
+use Rattle.grimholdi.specs.Outcome.{EntryOutcome}
+use Rattle.grimholdi.specs.Entry.{carriedOut}
 use Rattle.grimholdi.specs.Asked.{Asked, control, poll, startSplit, completeSplit, launch, deliver, lineEvent, tick, busReset, callOf, replyOf, gives}
 use Rattle.grimholdi.specs.Runs.{seen, NewArea, filled, entries, AreaFollows}
-use Rattle.grimholdi.proofs.Ways.{entry-taken, new-made}
+use Rattle.grimholdi.proofs.Entries.{entry-taken, new-made}
 
 -- ---- bytes in a reply space that has room for them
 
@@ -62,17 +64,17 @@ none-fits : (d r : List ℕ) → d ≡ [] → length d ≤ length r
 none-fits d r e = let z : length d ≡ 0 = ap length e in omega (arith, z)
 
 module _ (h : Hub) (v : ValidHub h) where
-  unroomy : (c : Call) → roomy c ≡ false → step h c .answer .bytes ≡ []
+  without-space : (c : Call) → hasSpace c ≡ false → step h c .answer .bytes ≡ []
   unfolding step
-  unroomy c p = go (within h c)
+  without-space c p = go (within h c)
     where
       go : (w : Bool)
-          → cond {A = Outcome} (eqb (firstRefusal w (roomy c) (heard h c) (fitting h c)) 0) (served h c)
-          (refuse (firstRefusal w (roomy c) (heard h c) (fitting h c)) h) .answer .bytes ≡ []
+          → cond {A = Outcome} (eqb (firstRefusal w (hasSpace c) (notSilent h c) (fitting h c)) 0) (served h c)
+          (refuse (firstRefusal w (hasSpace c) (notSilent h c) (fitting h c)) h) .answer .bytes ≡ []
       go true = rw p
       go false = refl
 
-  room-enough : (c : Call) (r : List ℕ) → roomy c ≡ leb 64 (length r) → length (step h c .answer .bytes) ≤ length r
+  room-enough : (c : Call) (r : List ℕ) → hasSpace c ≡ leb 64 (length r) → length (step h c .answer .bytes) ≤ length r
   room-enough c r e = go (leb 64 (length r)) refl
     where
       go : (b : Bool) → leb 64 (length r) ≡ b → length (step h c .answer .bytes) ≤ length r
@@ -80,13 +82,13 @@ module _ (h : Hub) (v : ValidHub h) where
           let most : length (step h c .answer .bytes) ≤ 64 = hub-claims .bytes-fit h v c in
           let room : 64 ≤ length r = leb-true 64 (length r) p in
           omega (arith, most, room)
-      go false p = none-fits (step h c .answer .bytes) r (unroomy c (e ∙ p))
+      go false p = none-fits (step h c .answer .bytes) r (without-space c (e ∙ p))
 
   none-given : (c : Call) → served h c .answer .bytes ≡ [] → step h c .answer .bytes ≡ []
   none-given c e = by-step h c (λ (o : Outcome). o .answer .bytes ≡ []) (λ n. refl) (λ w f. e)
 
   pub fits-reply : (x : Asked) → length (step h (callOf x) .answer .bytes) ≤ length (replyOf x)
-  unfolding roomy served
+  unfolding hasSpace served
   fits-reply (control z s r) = room-enough (Control z s (length r)) r refl
   fits-reply (poll z r) = room-enough (Poll z (length r)) r refl
   fits-reply (startSplit z p t f g a e l) = none-fits _ [] (none-given (Start z p t f g a e l) refl)
@@ -99,7 +101,7 @@ module _ (h : Hub) (v : ValidHub h) where
 
   -- ---- one entry on the written form of a valid hub
 
-  pub gives-taken : (x : Asked) → gives (written h) x ≡ gaveBy (step h (callOf x)) (replyOf x)
+  pub gives-taken : (x : Asked) → gives (written h) x ≡ carriedOut (step h (callOf x)) (replyOf x)
   gives-taken x = entry-taken (written h) (record { ok = true; hub = h }) (sym (area-exact .again h v)) refl (callOf x) (replyOf x)
 
   pub answer-same : (x : Asked) → seen (gives (written h) x) ≡ step h (callOf x) .answer
@@ -108,7 +110,7 @@ module _ (h : Hub) (v : ValidHub h) where
       ap seen (gives-taken x) ∙ ap (withBytes a) (seen-is (a .bytes) (replyOf x) (fits-reply x))
 
   pub next-same : (x : Asked) → gives (written h) x .area ≡ written (step h (callOf x) .next)
-  next-same x = ap (λ (g : Gave). g .area) (gives-taken x)
+  next-same x = ap (λ (g : EntryOutcome). g .area) (gives-taken x)
 
 -- ---- runs
 
@@ -137,7 +139,7 @@ module _ (m : NewArea) where
   pub filled-is : filled m ≡ written (newHubOf (m .numbers))
   filled-is =
       let n = m .numbers in
-      ap (λ (g : Gave). g .area) (new-made (m .memory) (n .ports) (n .buffers) (n .powergood) (n .current) (n .removable) (n .fit) (m .long))
+      ap (λ (g : EntryOutcome). g .area) (new-made (m .memory) (n .ports) (n .buffers) (n .powergood) (n .current) (n .removable) (n .fit) (m .long))
 
 pub demand-2 : Demand2 entries
 demand-2 m xs = ap (λ (a : List ℕ). runFrom entries a xs) (filled-is m) ∙ follows xs (newHubOf (m .numbers)) (new-hub m)

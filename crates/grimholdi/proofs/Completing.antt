@@ -25,13 +25,15 @@ use Rattle.numbers.specs.Split.{keyNamed, keyFrom}
 use Rattle.hub.specs.declared.Hub.{Hub}
 use Rattle.hub.specs.Call.{Call, Complete}
 use Rattle.hub.specs.Rules.{completedAs}
-use Rattle.hub.specs.Step.{within, roomy, heard, fitting, served, firstRefusal, step}
-use Rattle.taken.specs.Read.{accepts}
-use Rattle.parts.specs.declared.Head.{Head}
-use Rattle.parts.specs.Parts.{headAt, bufferAt, slotsAt, bufferOver}
-use Rattle.parts.proofs.Exact.{parts-exact}
+use Rattle.hub.specs.Checks.{within, hasSpace, notSilent, fitting, firstRefusal}
+use Rattle.hub.specs.Step.{served, step}
+use Rattle.area_check.specs.Read.{accepts}
+use Rattle.area_parts.specs.declared.Head.{Head}
+use Rattle.area_parts.specs.Parts.{headAt, bufferAt, slotsAt, bufferOver}
+use Rattle.area_parts.proofs.Exact.{parts-exact}
 use Rattle.grimholdi.specs.declared.Answer.{Answer}
-use Rattle.grimholdi.specs.Entry.{plainSaid, resultSaid}
+use Rattle.grimholdi.specs.Outcome.{plainStruct}
+use Rattle.grimholdi.specs.Entry.{resultStruct}
 use Rattle.grimholdi.proofs.Taken.{hubIn, valid, form, head-is, configured-is, slots-are, buffer-is, early, ruled, Gives, Unchanged, moves, stays}
 
 module _ (a : List ℕ) (ok : accepts a ≡ true) (hd : Head) (e : hd ≡ headAt a) (lane address endpoint direction : ℕ) {w : Bool}
@@ -45,14 +47,14 @@ module _ (a : List ℕ) (ok : accepts a ≡ true) (hd : Head) (e : hd ≡ headAt
   abbrev call : Call
   call = Complete lane address endpoint direction (length r)
 
-  pub complete-refused : ¬ (n ≡ 0) → (x : Answer) → x ≡ plainSaid n → Unchanged a call r x
-  unfolding within roomy heard
+  pub complete-refused : ¬ (n ≡ 0) → (x : Answer) → x ≡ plainStruct n → Unchanged a call r x
+  unfolding within hasSpace notSilent
   complete-refused z x ex = stays a ok call r n (early a ok call g ew refl (configured-is a ok hd e) z) x ex
 
   module _ (z : n ≡ 0) (s : List Slot) (es : s ≡ slotsAt (hd .ports .0) a) (k : Key) (ek : k ≡ keyFrom lane address endpoint direction) {f : Found}
       (ef : f ≡ find (holds k) (take (hd .count .0) (bare s))) where
     by-found : (b : Found) → f ≡ b → step h call ≡ completedAs h (completeAt t b)
-    unfolding within roomy heard fitting served completeSplit
+    unfolding within hasSpace notSilent fitting served completeSplit
     by-found b i =
         ruled a ok call g ew refl (configured-is a ok hd e) z (λ p. absurd (true≢false p))
         ∙ ap (λ (x : Key). completedAs h (completeAt t (find (holds x) (take (t .count) (t .buffers))))) (sym ek)
@@ -63,7 +65,7 @@ module _ (a : List ℕ) (ok : accepts a ≡ true) (hd : Head) (e : hd ≡ headAt
         ∙ sym ef
         ∙ i)
 
-    pub nowhere : f ≡ Nowhere → (x : Answer) → x ≡ plainSaid 2 → Unchanged a call r x
+    pub nowhere : f ≡ Nowhere → (x : Answer) → x ≡ plainStruct 2 → Unchanged a call r x
     nowhere i x ex = stays a ok call r 2 (by-found Nowhere i) x ex
 
     module _ {m : BufferNumber} (p : f ≡ At m) (b : Buffer) (eb : b ≡ bufferAt (hd .ports .0) m a) where
@@ -73,15 +75,15 @@ module _ (a : List ℕ) (ok : accepts a ≡ true) (hd : Head) (e : hd ≡ headAt
           ∙ ap (λ (x : Buffer). completedAs h (completed t m (x .payload) (x .slot))) (sym (buffer-is a ok hd e m b eb))
           ∙ ap (λ (x : Slot). completedAs h (completed t m (b .payload) x)) i
 
-      pub on-empty : b .slot ≡ Empty → (x : Answer) → x ≡ plainSaid 2 → Unchanged a call r x
+      pub on-empty : b .slot ≡ Empty → (x : Answer) → x ≡ plainStruct 2 → Unchanged a call r x
       on-empty i x ex = stays a ok call r 2 (by-slot Empty i) x ex
 
-      pub on-pending : {k : StartSplit} {d : ℕ} → b .slot ≡ Pending k d → (x : Answer) → x ≡ plainSaid 4 → Unchanged a call r x
+      pub on-pending : {k : StartSplit} {d : ℕ} → b .slot ≡ Pending k d → (x : Answer) → x ≡ plainStruct 4 → Unchanged a call r x
       on-pending i x ex = stays a ok call r 4 (by-slot _ i) x ex
 
       pub on-ready : {k : StartSplit} {d : DeviceResult} → b .slot ≡ Ready k d → (x : Answer) (u v : List ℕ)
           → u ≡ bufferOver (hd .ports .0) m (record { slot = Old k d; payload = b .payload }) a
-          → (x ≡ resultSaid d (content (given d (b .payload)))) × (v ≡ written (content (given d (b .payload))) r) → Gives a call r x u v
+          → (x ≡ resultStruct d (content (given d (b .payload)))) × (v ≡ written (content (given d (b .payload))) r) → Gives a call r x u v
       on-ready {k} {d} i x u v eu q =
           let old : Buffer = record { slot = Old k d; payload = b .payload } in
           moves a ok call r _ (by-slot (Ready k d) i) x u v (q .0)
@@ -92,5 +94,5 @@ module _ (a : List ℕ) (ok : accepts a ≡ true) (hd : Head) (e : hd ≡ headAt
           (q .1)
 
       pub on-old : {k : StartSplit} {d : DeviceResult} → b .slot ≡ Old k d → (x : Answer) (v : List ℕ)
-          → (x ≡ resultSaid d (content (given d (b .payload)))) × (v ≡ written (content (given d (b .payload))) r) → Gives a call r x a v
+          → (x ≡ resultStruct d (content (given d (b .payload)))) × (v ≡ written (content (given d (b .payload))) r) → Gives a call r x a v
       on-old {k} {d} i x v q = moves a ok call r _ (by-slot (Old k d) i) x a v (q .0) (form a ok) (q .1)

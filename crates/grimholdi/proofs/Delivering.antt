@@ -26,16 +26,17 @@ use Rattle.hub.specs.declared.Hub.{Hub}
 use Rattle.hub.specs.Hub.{withTranslator}
 use Rattle.hub.specs.Call.{Call, Deliver, plain}
 use Rattle.hub.specs.Rules.{deliveredAs}
-use Rattle.hub.specs.Step.{within, roomy, heard, fitting, served, firstRefusal, step}
+use Rattle.hub.specs.Checks.{within, hasSpace, notSilent, fitting, firstRefusal}
+use Rattle.hub.specs.Step.{served, step}
 use Rattle.hub.proofs.Numbers.{right}
 use Rattle.area.specs.Written.{written as form-of}
-use Rattle.taken.specs.Read.{accepts}
-use Rattle.parts.specs.declared.Head.{Head}
-use Rattle.parts.specs.Parts.{headAt, bufferAt, lowOver, bufferOver}
-use Rattle.parts.proofs.Anew.{Shaped, shaped, buffer-anew}
-use Rattle.parts.proofs.Exact.{parts-exact}
+use Rattle.area_check.specs.Read.{accepts}
+use Rattle.area_parts.specs.declared.Head.{Head}
+use Rattle.area_parts.specs.Parts.{headAt, bufferAt, lowOver, bufferOver}
+use Rattle.area_parts.proofs.Anew.{Shaped, shaped, buffer-anew}
+use Rattle.area_parts.proofs.Exact.{parts-exact}
 use Rattle.grimholdi.specs.declared.Answer.{Answer}
-use Rattle.grimholdi.specs.Entry.{plainSaid}
+use Rattle.grimholdi.specs.Outcome.{plainStruct}
 use Rattle.grimholdi.proofs.Taken.{hubIn, valid, form, head-is, configured-is, buffer-is, early, ruled, all-held, Leaves, leaves, rests}
 
 -- a delivery that is answered 8 changes nothing
@@ -74,8 +75,8 @@ module _ (a : List ℕ) (ok : accepts a ≡ true) (hd : Head) (e : hd ≡ headAt
   unfolding within
   within-is = ew ∙ ap (λ (x : DeviceResult). isResult result && resultLength x (length l)) ek
 
-  pub deliver-refused : ¬ (n ≡ 0) → (x : Answer) → x ≡ plainSaid n → Leaves a call x a
-  unfolding roomy heard
+  pub deliver-refused : ¬ (n ≡ 0) → (x : Answer) → x ≡ plainStruct n → Leaves a call x a
+  unfolding hasSpace notSilent
   deliver-refused z x ex = rests a ok call n (early a ok call g within-is refl (configured-is a ok hd e) z) x ex
 
   module _ (z : n ≡ 0) where
@@ -86,7 +87,7 @@ module _ (a : List ℕ) (ok : accepts a ≡ true) (hd : Head) (e : hd ≡ headAt
         within-of = ew ∙ ap (λ (x : DeviceResult). isResult result && resultLength x (length l)) ek
 
     served-is : step h call ≡ deliveredAs h (deliverBy t k l (hd .low))
-    unfolding roomy heard fitting served deliver
+    unfolding hasSpace notSilent fitting served deliver
     served-is =
         ruled a ok call g within-is refl (configured-is a ok hd e) z (unfit-by h (resultFrom result) l (resultLength (resultFrom result) (length l)) (t .low))
         ∙ ap (λ (b : Bool). deliveredAs h (cond b (deliverBy t (resultFrom result) l (t .low)) (undelivered t Outside))) long-enough
@@ -96,14 +97,14 @@ module _ (a : List ℕ) (ok : accepts a ≡ true) (hd : Head) (e : hd ≡ headAt
     by-low : (b : LowSide) → hd .low ≡ b → step h call ≡ deliveredAs h (deliverBy t k l b)
     by-low b i = served-is ∙ ap (λ (x : LowSide). deliveredAs h (deliverBy t k l x)) i
 
-    pub idle : hd .low ≡ Idle → (x : Answer) → x ≡ plainSaid 8 → Leaves a call x a
+    pub idle : hd .low ≡ Idle → (x : Answer) → x ≡ plainStruct 8 → Leaves a call x a
     idle i x ex = rests a ok call 8 (by-low Idle i) x ex
 
     low-left : lowOver Idle a ≡ form-of (withTranslator h (withLow t Idle))
     low-left = ap (lowOver Idle) (form a ok) ∙ parts-exact .low-put h Idle (valid a ok)
 
     -- the delivery is thrown away
-    pub abandoned : hd .low ≡ Abandoned → (x : Answer) (u : List ℕ) → x ≡ plainSaid 0 → u ≡ lowOver Idle a → Leaves a call x u
+    pub abandoned : hd .low ≡ Abandoned → (x : Answer) (u : List ℕ) → x ≡ plainStruct 0 → u ≡ lowOver Idle a → Leaves a call x u
     abandoned i x u ex eu = leaves a ok call _ (by-low Abandoned i) x u ex (eu ∙ low-left)
 
     module _ {m : BufferNumber} (i : hd .low ≡ Running m) (s : Slot) (es : s ≡ bufferAt (hd .ports .0) m a .slot) where
@@ -112,13 +113,13 @@ module _ (a : List ℕ) (ok : accepts a ≡ true) (hd : Head) (e : hd ≡ headAt
           by-low (Running m) i
           ∙ ap (λ (x : Slot). deliveredAs h (delivered t k l m x)) (sym (es ∙ ap (λ (x : Buffer). x .slot) (buffer-is a ok hd e m _ refl)) ∙ j)
 
-      pub on-empty : s ≡ Empty → (x : Answer) → x ≡ plainSaid 8 → Leaves a call x a
+      pub on-empty : s ≡ Empty → (x : Answer) → x ≡ plainStruct 8 → Leaves a call x a
       on-empty j x ex = rests a ok call 8 (by-slot Empty j) x ex
 
-      pub on-ready : {p : StartSplit} {d : DeviceResult} → s ≡ Ready p d → (x : Answer) → x ≡ plainSaid 8 → Leaves a call x a
+      pub on-ready : {p : StartSplit} {d : DeviceResult} → s ≡ Ready p d → (x : Answer) → x ≡ plainStruct 8 → Leaves a call x a
       on-ready j x ex = rests a ok call 8 (by-slot _ j) x ex
 
-      pub on-old : {p : StartSplit} {d : DeviceResult} → s ≡ Old p d → (x : Answer) → x ≡ plainSaid 8 → Leaves a call x a
+      pub on-old : {p : StartSplit} {d : DeviceResult} → s ≡ Old p d → (x : Answer) → x ≡ plainStruct 8 → Leaves a call x a
       on-old j x ex = rests a ok call 8 (by-slot _ j) x ex
 
       module _ {p : StartSplit} {d : ℕ} (j : s ≡ Pending p d) {f : Bool} (ef : f ≡ suits (p .pid) k) where
@@ -132,10 +133,10 @@ module _ (a : List ℕ) (ok : accepts a ≡ true) (hd : Head) (e : hd ≡ headAt
         by-test : (b : Bool) → f ≡ b → step h call ≡ deliveredAs h (cond b ready (undelivered t NotInThisState))
         by-test b q = by-slot (Pending p d) j ∙ ap (λ (x : Bool). deliveredAs h (cond x ready (undelivered t NotInThisState))) (sym ef ∙ q)
 
-        pub unsuited : f ≡ false → (x : Answer) → x ≡ plainSaid 8 → Leaves a call x a
+        pub unsuited : f ≡ false → (x : Answer) → x ≡ plainStruct 8 → Leaves a call x a
         unsuited q x ex = rests a ok call 8 (by-test false q) x ex
 
-        pub suited : f ≡ true → (x : Answer) (u : List ℕ) → x ≡ plainSaid 0
+        pub suited : f ≡ true → (x : Answer) (u : List ℕ) → x ≡ plainStruct 0
             → u ≡ bufferOver (hd .ports .0) m (record { slot = Ready p k; payload = payloadOf l }) (lowOver Idle a) → Leaves a call x u
         suited q x u ex eu =
             let b : Buffer = record { slot = Ready p k; payload = payloadOf l } in

@@ -19,7 +19,7 @@ use Rattle.runs.proofs.Reaching.{reached}
 use Rattle.isolation.specs.Isolation.{SameBut, SameAnswers, Matching}
 use Rattle.isolation.proofs.Setting.{erased}
 use Rattle.isolation.proofs.Isolated.{all-but, reached-same, answers-same, carried}
-use Rattle.taken.specs.Rows.{flat}
+use Rattle.payload.specs.Bytes.{flat}
 use Rattle.area.specs.Written.{portBytes, bufferBytes, headBytes, written, areaLength}
 use Rattle.area.specs.Read.{readOf}
 use Rattle.area.proofs.Exact.{area-exact}

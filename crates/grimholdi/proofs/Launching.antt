@@ -26,13 +26,15 @@ use Rattle.translator.proofs.Bare.{earliest-bare}
 use Rattle.hub.specs.declared.Hub.{Hub}
 use Rattle.hub.specs.Call.{Call, Launch, plain}
 use Rattle.hub.specs.Rules.{launchAnswer, launchedAs}
-use Rattle.hub.specs.Step.{within, roomy, heard, fitting, served, firstRefusal, step}
-use Rattle.taken.specs.Read.{accepts}
-use Rattle.parts.specs.declared.Head.{Head}
-use Rattle.parts.specs.Parts.{headAt, bufferAt, slotsAt, lowOver}
-use Rattle.parts.proofs.Exact.{parts-exact}
+use Rattle.hub.specs.Checks.{within, hasSpace, notSilent, fitting, firstRefusal}
+use Rattle.hub.specs.Step.{served, step}
+use Rattle.area_check.specs.Read.{accepts}
+use Rattle.area_parts.specs.declared.Head.{Head}
+use Rattle.area_parts.specs.Parts.{headAt, bufferAt, slotsAt, lowOver}
+use Rattle.area_parts.proofs.Exact.{parts-exact}
 use Rattle.grimholdi.specs.declared.Answer.{Answer}
-use Rattle.grimholdi.specs.Entry.{saidOf, plainSaid}
+use Rattle.grimholdi.specs.Outcome.{plainStruct}
+use Rattle.grimholdi.specs.Entry.{structOf}
 use Rattle.grimholdi.proofs.Taken.{hubIn, valid, form, head-is, configured-is, slots-are, buffer-is, early, ruled, Gives, Unchanged, moves, stays}
 
 -- while the low side is idle a launch is never answered 8
@@ -65,21 +67,21 @@ module _ (a : List ℕ) (ok : accepts a ≡ true) (hd : Head) (e : hd ≡ headAt
   abbrev call : Call
   call = Launch (length r)
 
-  pub launch-refused : ¬ (n ≡ 0) → (x : Answer) → x ≡ plainSaid n → Unchanged a call r x
-  unfolding within roomy heard
+  pub launch-refused : ¬ (n ≡ 0) → (x : Answer) → x ≡ plainStruct n → Unchanged a call r x
+  unfolding within hasSpace notSilent
   launch-refused z x ex = stays a ok call r n (early a ok call g refl refl (configured-is a ok hd e) z) x ex
 
   module _ (z : n ≡ 0) where
     served-is : step h call ≡ launchedAs h (launchBy t (hd .low))
-    unfolding within roomy heard fitting served launch
+    unfolding within hasSpace notSilent fitting served launch
     served-is =
         ruled a ok call g refl refl (configured-is a ok hd e) z (unfit h (t .low))
         ∙ ap (λ (x : Head). launchedAs h (launchBy t (x .low))) (sym (head-is a ok hd e))
 
-    pub running : {m : BufferNumber} → hd .low ≡ Running m → (x : Answer) → x ≡ plainSaid 8 → Unchanged a call r x
+    pub running : {m : BufferNumber} → hd .low ≡ Running m → (x : Answer) → x ≡ plainStruct 8 → Unchanged a call r x
     running l x ex = stays a ok call r 8 (served-is ∙ ap (λ (y : LowSide). launchedAs h (launchBy t y)) l) x ex
 
-    pub abandoned : hd .low ≡ Abandoned → (x : Answer) → x ≡ plainSaid 8 → Unchanged a call r x
+    pub abandoned : hd .low ≡ Abandoned → (x : Answer) → x ≡ plainStruct 8 → Unchanged a call r x
     abandoned l x ex = stays a ok call r 8 (served-is ∙ ap (λ (y : LowSide). launchedAs h (launchBy t y)) l) x ex
 
     module _ (l : hd .low ≡ Idle) (s : List Slot) (es : s ≡ slotsAt (hd .ports .0) a) {f : Earliest} (ef : f ≡ earliest (take (hd .count .0) (bare s))) where
@@ -93,7 +95,7 @@ module _ (a : List ℕ) (ok : accepts a ≡ true) (hd : Head) (e : hd ≡ headAt
           ∙ ap (λ (y : Head). earliest (take (y .count .0) (bare s))) (sym (head-is a ok hd e))
           ∙ sym ef)
 
-      pub none-pending : f ≡ NonePending → (x : Answer) → x ≡ plainSaid 3 → Unchanged a call r x
+      pub none-pending : f ≡ NonePending → (x : Answer) → x ≡ plainStruct 3 → Unchanged a call r x
       none-pending p x ex = stays a ok call r 3 (idle ∙ ap (λ (y : Earliest). launchedAs h (launchAt t y)) p) x ex
 
       module _ {m : BufferNumber} {q : ℕ} (p : f ≡ Stored m q) (b : Buffer) (eb : b ≡ bufferAt (hd .ports .0) m a) where
@@ -104,17 +106,17 @@ module _ (a : List ℕ) (ok : accepts a ≡ true) (hd : Head) (e : hd ≡ headAt
             ∙ ap (λ (y : Buffer). launchedAs h (launched t m (y .payload) (y .slot))) (sym (buffer-is a ok hd e m b eb))
             ∙ ap (λ (y : Slot). launchedAs h (launched t m (b .payload) y)) i
 
-        pub on-empty : b .slot ≡ Empty → (x : Answer) → x ≡ plainSaid 3 → Unchanged a call r x
+        pub on-empty : b .slot ≡ Empty → (x : Answer) → x ≡ plainStruct 3 → Unchanged a call r x
         on-empty i x ex = stays a ok call r 3 (by-slot Empty i) x ex
 
-        pub on-ready : {k : StartSplit} {d : DeviceResult} → b .slot ≡ Ready k d → (x : Answer) → x ≡ plainSaid 3 → Unchanged a call r x
+        pub on-ready : {k : StartSplit} {d : DeviceResult} → b .slot ≡ Ready k d → (x : Answer) → x ≡ plainStruct 3 → Unchanged a call r x
         on-ready i x ex = stays a ok call r 3 (by-slot _ i) x ex
 
-        pub on-old : {k : StartSplit} {d : DeviceResult} → b .slot ≡ Old k d → (x : Answer) → x ≡ plainSaid 3 → Unchanged a call r x
+        pub on-old : {k : StartSplit} {d : DeviceResult} → b .slot ≡ Old k d → (x : Answer) → x ≡ plainStruct 3 → Unchanged a call r x
         on-old i x ex = stays a ok call r 3 (by-slot _ i) x ex
 
         pub launches : {k : StartSplit} {d : ℕ} → b .slot ≡ Pending k d → (x : Answer) (u v : List ℕ)
-            → x ≡ saidOf (launchAnswer k (content (b .payload))) → u ≡ lowOver (Running m) a → v ≡ written (content (b .payload)) r → Gives a call r x u v
+            → x ≡ structOf (launchAnswer k (content (b .payload))) → u ≡ lowOver (Running m) a → v ≡ written (content (b .payload)) r → Gives a call r x u v
         launches {k} {d} i x u v ex eu ev =
             moves a ok call r _ (by-slot (Pending k d) i) x u v ex
             (eu ∙ ap (lowOver (Running m)) (form a ok) ∙ parts-exact .low-put h (Running m) (valid a ok)) ev

@@ -1,4 +1,4 @@
-pub mod Ways
+pub mod Entries
 pub mod Taken
 pub mod Launching
 pub mod Delivering

@@ -9,24 +9,25 @@ use lib.Dec.{eqb, leb}
 use lib.ListN.{length}
 use borrow.Author.Tests.{eqb-true, eqb-false}
 use Rattle.hub.specs.Hub.{newFits, hubOf}
-use Rattle.hub.specs.Claims.{CountsOutside, NewOutside}
+use Rattle.hub.specs.New.{CountsOutside, NewOutside}
 use Rattle.hub.proofs.Tells.{Tells}
 use Rattle.hub.proofs.NewNumbers.{counts-tell}
 use Rattle.hub.proofs.Claimed.{hub-claims}
 use Rattle.area.specs.Written.{written, areaLength}
 use Rattle.area.proofs.Exact.{area-exact}
-use Rattle.grimholdi.specs.Entry.{plainSaid, Gave, refused, newEntry}
+use Rattle.grimholdi.specs.Outcome.{plainStruct, EntryOutcome, refused}
+use Rattle.grimholdi.specs.Entry.{newEntry}
 use Rattle.grimholdi.specs.New.{Long, NewHubs, AreaLengths}
 
 module _ (a : List ℕ) (n b g c r : ℕ) where
-  abbrev made : Gave
-  made = record { answer = plainSaid 0; area = written (hubOf n b g c r); reply = [] }
+  abbrev made : EntryOutcome
+  made = record { answer = plainStruct 0; area = written (hubOf n b g c r); reply = [] }
 
   form-long : newFits n b g c r ≡ true → length (written (hubOf n b g c r)) ≡ areaLength n b
   form-long f = area-exact .written-length (hubOf n b g c r) (hub-claims .new-valid n b g c r f)
 
   -- the two ways
-  data Way (o : Gave) : Type 0 where
+  data Way (o : EntryOutcome) : Type 0 where
     refuses : NewOutside n b g c r ⊎ ¬ (Long a n b g c r) → o ≡ refused a [] → Way o
     makes : ¬ (NewOutside n b g c r) → Long a n b g c r → o ≡ made → Way o
 
@@ -40,18 +41,18 @@ module _ (a : List ℕ) (n b g c r : ℕ) where
       go true e false f = refuses (inr (λ l. eqb-false (length a) (areaLength n b) f (l ∙ form-long e))) refl
       go false e y f = refuses (inl (hub-claims .new-refused n b g c r .0 e)) refl
 
-  not-made : {o : Gave} → o ≡ made → ¬ (o .answer .number ≡ 6)
-  not-made e s = let z : _≡_ {A = ℕ} 0 6 = sym (ap (λ (y : Gave). y .answer .number) e) ∙ s in omega (arith, z)
+  not-made : {o : EntryOutcome} → o ≡ made → ¬ (o .answer .number ≡ 6)
+  not-made e s = let z : _≡_ {A = ℕ} 0 6 = sym (ap (λ (y : EntryOutcome). y .answer .number) e) ∙ s in omega (arith, z)
 
-  exactly : {o : Gave} → Way o → (o .answer .number ≡ 6) ↔ (NewOutside n b g c r ⊎ ¬ (Long a n b g c r))
-  exactly (refuses w e) = (λ s. w, λ s. ap (λ (y : Gave). y .answer .number) e)
+  exactly : {o : EntryOutcome} → Way o → (o .answer .number ≡ 6) ↔ (NewOutside n b g c r ⊎ ¬ (Long a n b g c r))
+  exactly (refuses w e) = (λ s. w, λ s. ap (λ (y : EntryOutcome). y .answer .number) e)
   exactly (makes f l e) = (λ s. absurd (not-made e s), λ s. absurd (⊎-elim f (λ k. k l) s))
 
-  unchanged : {o : Gave} → Way o → o .answer .number ≡ 6 → o ≡ refused a []
+  unchanged : {o : EntryOutcome} → Way o → o .answer .number ≡ 6 → o ≡ refused a []
   unchanged (refuses w e) s = e
   unchanged (makes f l e) s = absurd (not-made e s)
 
-  is-made : {o : Gave} → Way o → ¬ (NewOutside n b g c r) → Long a n b g c r → o ≡ made
+  is-made : {o : EntryOutcome} → Way o → ¬ (NewOutside n b g c r) → Long a n b g c r → o ≡ made
   is-made (refuses w e) f l = absurd (⊎-elim f (λ k. k l) w)
   is-made (makes f l e) _ _ = e
 

@@ -16,17 +16,18 @@ use Rattle.runs.proofs.Refusing.{refusals}
 use Rattle.area.specs.Written.{written}
 use Rattle.area.specs.Read.{readOf}
 use Rattle.area.proofs.Exact.{area-exact}
-use Rattle.grimholdi.specs.Entry.{Gave, refused, gaveBy}
+use Rattle.grimholdi.specs.Outcome.{EntryOutcome, refused}
+use Rattle.grimholdi.specs.Entry.{carriedOut}
 use Rattle.grimholdi.specs.Asked.{Asked, callOf, replyOf, gives}
 use Rattle.grimholdi.specs.Runs.{seen}
 use Rattle.grimholdi.specs.Refusals.{EntryRefusals}
 use Rattle.grimholdi.proofs.Taken.{none-written}
-use Rattle.grimholdi.proofs.Ways.{taken-hub, entry-taken, entry-refused}
+use Rattle.grimholdi.proofs.Entries.{taken-hub, entry-taken, entry-refused}
 use Rattle.grimholdi.proofs.Carried.{seen-is, behind-is, same-long, fits-reply, gives-taken, answer-same}
 
 -- an area is taken or refused
-module _ (a : List ℕ) (x : Asked) (P : Gave → Type 0) where
-  by-area : P (refused a (replyOf x)) → ((h : Hub) → ValidHub h → a ≡ written h → P (gaveBy (step h (callOf x)) (replyOf x))) → P (gives a x)
+module _ (a : List ℕ) (x : Asked) (P : EntryOutcome → Type 0) where
+  by-area : P (refused a (replyOf x)) → ((h : Hub) → ValidHub h → a ≡ written h → P (carriedOut (step h (callOf x)) (replyOf x))) → P (gives a x)
   by-area no-hub by-hub = go (readOf a .ok) refl
     where
       go : (b : Bool) → readOf a .ok ≡ b → P (gives a x)
@@ -79,7 +80,7 @@ entry-refusals =
     record {
       bad-area = λ a x n. entry-refused a (readOf a) refl (area-exact .refused a .1 n) (callOf x) (replyOf x);
       exactly = λ r h x v.
-          let q = ap (λ (g : Gave). g .answer .number) (gives-taken h v x) in
+          let q = ap (λ (g : EntryOutcome). g .answer .number) (gives-taken h v x) in
           let due = refusals .exactly r h (callOf x) v in
           (λ e. due .0 (sym q ∙ e), λ e. q ∙ due .1 e);
       numbered = numbered;

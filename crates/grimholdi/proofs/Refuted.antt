@@ -17,19 +17,21 @@ use Rattle.hub.specs.Hub.{newFits, hubOf, configuredAs}
 use Rattle.hub.specs.Call as hub
 use Rattle.hub.specs.Requests.{requested}
 use Rattle.hub.specs.Rules.{polled}
-use Rattle.hub.specs.Step.{within, roomy, heard, fitting, served, step}
+use Rattle.hub.specs.Checks.{within, hasSpace, notSilent, fitting}
+use Rattle.hub.specs.Step.{served, step}
 use Rattle.hub.specs.Valid.{ValidHub}
 use Rattle.hub.proofs.Claimed.{hub-claims}
 use Rattle.runs.specs.Machine.{afterFrom}
 use Rattle.runs.specs.Refusals.{Refusal, outside, short, silent, misplaced, stall, nak, nyet, numberOf, Serves}
 use Rattle.runs.proofs.Refuted.{bench, configure}
-use Rattle.taken.specs.Rows.{flat}
-use Rattle.taken.specs.Read.{headFits, sized, accepts}
+use Rattle.payload.specs.Bytes.{flat}
+use Rattle.area_check.specs.Read.{headFits, sized, accepts}
 use Rattle.area.specs.declared.Read.{Read}
 use Rattle.area.specs.Written.{portBytes, bufferBytes, headBytes, written, areaLength}
 use Rattle.area.specs.Read.{refusal, readOf}
 use Rattle.area.proofs.Exact.{area-exact}
-use Rattle.grimholdi.specs.Entry.{Gave, gaveBy, newEntry}
+use Rattle.grimholdi.specs.Outcome.{EntryOutcome}
+use Rattle.grimholdi.specs.Entry.{carriedOut, newEntry}
 use Rattle.grimholdi.specs.Asked.{Asked, control, poll, tick, callOf, replyOf, gives}
 use Rattle.grimholdi.specs.Runs.{seen, NewArea, AreaFollows}
 use Rattle.grimholdi.specs.New.{NewHubs, AreaLengths}
@@ -39,9 +41,9 @@ use Rattle.grimholdi.proofs.Carried.{gives-taken, filled-is}
 
 -- ---- a valid hub: what an altered entry gives is what is given, altered
 
-module _ (h : Hub) (v : ValidHub h) (x : Asked) (alter : Gave → Gave) (P : Gave → Type 0) where
-  as-ruled : P (alter (gives (written h) x)) → P (alter (gaveBy (step h (callOf x)) (replyOf x)))
-  as-ruled p = subst (λ (g : Gave). P (alter g)) (gives-taken h v x) p
+module _ (h : Hub) (v : ValidHub h) (x : Asked) (alter : EntryOutcome → EntryOutcome) (P : EntryOutcome → Type 0) where
+  as-ruled : P (alter (gives (written h) x)) → P (alter (carriedOut (step h (callOf x)) (replyOf x)))
+  as-ruled p = subst (λ (g : EntryOutcome). P (alter g)) (gives-taken h v x) p
 
 -- a new hub, and the same configured
 abbrev fresh : Hub
@@ -78,7 +80,7 @@ configuring = control 0 (0x00 ∷ 0x09 ∷ 1 ∷ 0 ∷ 0 ∷ 0 ∷ 0 ∷ 0 ∷ [
 -- ---- what is given
 
 zeroes-behind : ¬ (EntryRefusals (λ a x. zeroed (gives a x)))
-unfolding step within roomy heard fitting served requested requestOf checked kindOf payload.written
+unfolding step within hasSpace notSilent fitting served requested requestOf checked kindOf payload.written
 zeroes-behind claim =
     let e =
     as-ruled fresh fresh-valid descriptor zeroed (λ g. drop (g .answer .length) (g .reply) ≡ drop (g .answer .length) sevens)
@@ -86,7 +88,7 @@ zeroes-behind claim =
     let z : _≡_ {A = ℕ} 0 7 = ap first e in omega (arith, z)
 
 writes-on-nak : ¬ (EntryRefusals (λ a x. onNumber 3 touched (gives a x)))
-unfolding step within roomy heard fitting served requested requestOf checked kindOf payload.written configuredAs front swept polled bitmapOf portAt
+unfolding step within hasSpace notSilent fitting served requested requestOf checked kindOf payload.written configuredAs front swept polled bitmapOf portAt
 writes-on-nak claim =
     let e =
     as-ruled ready ready-valid polling (onNumber 3 touched) (λ g. g .answer .number ≡ 3 → (g .area ≡ written ready) × (g .reply ≡ sevens))
@@ -94,7 +96,7 @@ writes-on-nak claim =
     let z : _≡_ {A = ℕ} 0xFF 7 = ap first (e refl .1) in omega (arith, z)
 
 writes-on-done : ¬ (EntryRefusals (λ a x. onNumber 0 touched (gives a x)))
-unfolding step within roomy heard fitting served requested requestOf checked kindOf payload.written
+unfolding step within hasSpace notSilent fitting served requested requestOf checked kindOf payload.written
 writes-on-done claim =
     let e =
     as-ruled fresh fresh-valid configuring (onNumber 0 touched) (λ g. (g .answer .number ≡ 0) ⊎ (g .answer .number ≡ 9) → g .reply ≡ sevens)
@@ -111,7 +113,7 @@ no-such nak e = omega (arith, e)
 no-such nyet e = omega (arith, e)
 
 answers-ten : ¬ (EntryRefusals (λ a x. onNumber 0 ten (gives a x)))
-unfolding step within roomy heard fitting served
+unfolding step within hasSpace notSilent fitting served
 answers-ten claim =
     let e =
     as-ruled fresh fresh-valid tick (onNumber 0 ten) (λ g. ((r : Refusal) × (g .answer .number ≡ numberOf r)) ⊎ Serves (g .answer .number))
@@ -119,7 +121,7 @@ answers-ten claim =
     ⊎-elim (λ q. no-such (q .0) (q .1)) (⊎-elim (λ z. omega (arith, z)) (⊎-elim (λ z. omega (arith, z)) (λ z. omega (arith, z)))) e
 
 says-more : ¬ (EntryRefusals (λ a x. onNumber 1 oneMore (gives a x)))
-unfolding step within roomy heard fitting served requested requestOf checked kindOf payload.written
+unfolding step within hasSpace notSilent fitting served requested requestOf checked kindOf payload.written
 says-more claim =
     let e =
     as-ruled fresh fresh-valid descriptor (onNumber 1 oneMore) (λ g. seen g ≡ step fresh (callOf descriptor) .answer)
@@ -129,12 +131,12 @@ says-more claim =
 -- ---- areas
 
 -- an area that is the new hub's written form is ticked
-ticked : (b : List ℕ) (o : Gave) → b ≡ written fresh → cond (readOf b .ok) (gives b tick) o .answer .number ≡ 0
-unfolding step within roomy heard fitting served
+ticked : (b : List ℕ) (o : EntryOutcome) → b ≡ written fresh → cond (readOf b .ok) (gives b tick) o .answer .number ≡ 0
+unfolding step within hasSpace notSilent fitting served
 ticked b o e =
     ap (λ (l : List ℕ). cond (readOf l .ok) (gives l tick) o .answer .number) e
     ∙ ap (λ (r : Read). cond (r .ok) (gives (written fresh) tick) o .answer .number) (area-exact .again fresh fresh-valid)
-    ∙ ap (λ (g : Gave). g .answer .number) (gives-taken fresh fresh-valid tick)
+    ∙ ap (λ (g : EntryOutcome). g .answer .number) (gives-taken fresh fresh-valid tick)
 
 abbrev longer : List ℕ
 longer = written fresh ++ 0 ∷ []
@@ -146,7 +148,7 @@ longer-refused = refl
 takes-longer : ¬ (EntryRefusals takesLonger)
 unfolding written headBytes flat portBytes bufferBytes
 takes-longer claim =
-    let e = ap (λ (g : Gave). g .answer .number) (claim .bad-area longer tick (area-exact .refused longer .0 longer-refused)) in
+    let e = ap (λ (g : EntryOutcome). g .answer .number) (claim .bad-area longer tick (area-exact .refused longer .0 longer-refused)) in
     let z : _≡_ {A = ℕ} 0 6 = sym (ticked (take (length longer - 1) longer) (gives longer tick) refl) ∙ e in
     omega (arith, z)
 
@@ -155,7 +157,7 @@ unfolding bench areaLength
 memory = record { numbers = bench; memory = replicate 240 0; long = refl }
 
 keeps-area : ¬ (AreaFollows keepsArea)
-unfolding bench memory afterFrom step within roomy heard fitting served requested requestOf checked kindOf configuredAs front swept written headBytes
+unfolding bench memory afterFrom step within hasSpace notSilent fitting served requested requestOf checked kindOf configuredAs front swept written headBytes
 keeps-area claim =
     let e = sym (filled-is memory) ∙ claim memory (configuring ∷ []) in
     let z : _≡_ {A = ℕ} 0 1 = ap (λ (l : List ℕ). getD l 5 0) e in omega (arith, z)
@@ -178,13 +180,13 @@ makes-longer claim =
 refused-writes : ¬ (NewHubs refusedWrites)
 unfolding newEntry newFits areaLength
 refused-writes claim =
-    let z : _≡_ {A = ℕ} 0xFF 0 = ap (λ (g : Gave). first (g .area)) (claim .unchanged (0 ∷ []) 0 3 0 0 0 refl) in omega (arith, z)
+    let z : _≡_ {A = ℕ} 0xFF 0 = ap (λ (g : EntryOutcome). first (g .area)) (claim .unchanged (0 ∷ []) 0 3 0 0 0 refl) in omega (arith, z)
 
 keeps-byte : ¬ (NewHubs keepsByte)
 unfolding newEntry newFits areaLength written headBytes
 keeps-byte claim =
     let e = claim .made held 4 3 0x32 0x64 0 (λ o. false≢true (sym (hub-claims .new-refused 4 3 0x32 0x64 0 .1 o))) held-long in
-    let z : _≡_ {A = ℕ} 7 0x32 = ap (λ (g : Gave). getD (g .area) 2 0) e in omega (arith, z)
+    let z : _≡_ {A = ℕ} 7 0x32 = ap (λ (g : EntryOutcome). getD (g .area) 2 0) e in omega (arith, z)
 
 -- ---- lengths
 

@@ -23,15 +23,16 @@ use Rattle.hub.specs.declared.Hub.{Hub}
 use Rattle.hub.specs.Hub.{withTranslator}
 use Rattle.hub.specs.Call.{Call, Start}
 use Rattle.hub.specs.Rules.{startedAs}
-use Rattle.hub.specs.Step.{within, roomy, heard, fitting, served, firstRefusal, step}
+use Rattle.hub.specs.Checks.{within, hasSpace, notSilent, fitting, firstRefusal}
+use Rattle.hub.specs.Step.{served, step}
 use Rattle.hub.proofs.Numbers.{right}
-use Rattle.taken.specs.Read.{accepts}
+use Rattle.area_check.specs.Read.{accepts}
 use Rattle.area.specs.Written.{written}
-use Rattle.parts.specs.declared.Head.{Head}
-use Rattle.parts.specs.Parts.{headAt, slotsAt, storeOver}
-use Rattle.parts.proofs.Exact.{parts-exact}
+use Rattle.area_parts.specs.declared.Head.{Head}
+use Rattle.area_parts.specs.Parts.{headAt, slotsAt, storeOver}
+use Rattle.area_parts.proofs.Exact.{parts-exact}
 use Rattle.grimholdi.specs.declared.Answer.{Answer}
-use Rattle.grimholdi.specs.Entry.{plainSaid}
+use Rattle.grimholdi.specs.Outcome.{plainStruct}
 use Rattle.grimholdi.proofs.Taken.{hubIn, valid, form, head-is, configured-is, slots-are, early, ruled, all-held, Leaves, leaves, rests}
 
 module _ (a : List ℕ) (ok : accepts a ≡ true) (hd : Head) (e : hd ≡ headAt a) (lane pid transfer lowspeed toggle address endpoint : ℕ) (l : List ℕ)
@@ -51,8 +52,8 @@ module _ (a : List ℕ) (ok : accepts a ≡ true) (hd : Head) (e : hd ≡ headAt
   unfolding within
   within-is = ew ∙ ap (λ (x : StartSplit). splitNamed lane pid transfer lowspeed toggle address endpoint && startFits x (length l)) ek
 
-  pub start-refused : ¬ (n ≡ 0) → (x : Answer) → x ≡ plainSaid n → Leaves a call x a
-  unfolding roomy heard
+  pub start-refused : ¬ (n ≡ 0) → (x : Answer) → x ≡ plainStruct n → Leaves a call x a
+  unfolding hasSpace notSilent
   start-refused z x ex = rests a ok call n (early a ok call g within-is refl (configured-is a ok hd e) z) x ex
 
   module _ (z : n ≡ 0) (s : List Slot) (es : s ≡ slotsAt (hd .ports .0) a) (y : Key) (ey : y ≡ keyOf k) {f : Choice}
@@ -63,7 +64,7 @@ module _ (a : List ℕ) (ok : accepts a ≡ true) (hd : Head) (e : hd ≡ headAt
         (sym ew ∙ all-held w true (hd .configured) (sym z ∙ g))
 
     by-choice : (b : Choice) → f ≡ b → step h call ≡ startedAs h (startBy t k l b)
-    unfolding roomy heard fitting served startSplit
+    unfolding hasSpace notSilent fitting served startSplit
     by-choice b i =
         ruled a ok call g within-is refl (configured-is a ok hd e) z (λ p. absurd (true≢false p))
         ∙ ap (λ (x : StartSplit). startedAs h (startSplit t x l)) (sym ek)
@@ -76,13 +77,13 @@ module _ (a : List ℕ) (ok : accepts a ≡ true) (hd : Head) (e : hd ≡ headAt
         ∙ sym ef
         ∙ i)
 
-    pub no-room : f ≡ NoRoom → (x : Answer) → x ≡ plainSaid 3 → Leaves a call x a
+    pub no-room : f ≡ NoRoom → (x : Answer) → x ≡ plainStruct 3 → Leaves a call x a
     no-room i x ex = rests a ok call 3 (by-choice NoRoom i) x ex
 
-    pub limit : f ≡ LimitReached → (x : Answer) → x ≡ plainSaid 3 → Leaves a call x a
+    pub limit : f ≡ LimitReached → (x : Answer) → x ≡ plainStruct 3 → Leaves a call x a
     limit i x ex = rests a ok call 3 (by-choice LimitReached i) x ex
 
-    pub held : {m : BufferNumber} → f ≡ Held m → (x : Answer) → x ≡ plainSaid 0 → Leaves a call x a
+    pub held : {m : BufferNumber} → f ≡ Held m → (x : Answer) → x ≡ plainStruct 0 → Leaves a call x a
     held i x ex = rests a ok call 0 (by-choice _ i) x ex
 
     store-left : (m : BufferNumber) → storeOver s (hd .ports .0) m k l a ≡ written (withTranslator h (stored t m k l))
@@ -92,8 +93,8 @@ module _ (a : List ℕ) (ok : accepts a ≡ true) (hd : Head) (e : hd ≡ headAt
         ∙ ap (storeOver (slotsIn (t .buffers)) (h .identity .ports) m k l) (form a ok)
         ∙ parts-exact .store-put h m k l (valid a ok)
 
-    pub reused : {m : BufferNumber} → f ≡ Reused m → (x : Answer) (u : List ℕ) → x ≡ plainSaid 0 → u ≡ storeOver s (hd .ports .0) m k l a → Leaves a call x u
+    pub reused : {m : BufferNumber} → f ≡ Reused m → (x : Answer) (u : List ℕ) → x ≡ plainStruct 0 → u ≡ storeOver s (hd .ports .0) m k l a → Leaves a call x u
     reused {m} i x u ex eu = leaves a ok call _ (by-choice (Reused m) i) x u ex (eu ∙ store-left m)
 
-    pub took : {m : BufferNumber} → f ≡ Took m → (x : Answer) (u : List ℕ) → x ≡ plainSaid 0 → u ≡ storeOver s (hd .ports .0) m k l a → Leaves a call x u
+    pub took : {m : BufferNumber} → f ≡ Took m → (x : Answer) (u : List ℕ) → x ≡ plainStruct 0 → u ≡ storeOver s (hd .ports .0) m k l a → Leaves a call x u
     took {m} i x u ex eu = leaves a ok call _ (by-choice (Took m) i) x u ex (eu ∙ store-left m)

@@ -15,18 +15,20 @@ use Rattle.translator.specs.Translator.{at}
 use Rattle.translator.specs.Slots.{slotsIn}
 use Rattle.hub.specs.declared.Hub.{Hub}
 use Rattle.hub.specs.Call.{Call, Outcome, plain}
-use Rattle.hub.specs.Step.{within, roomy, heard, fitting, served, firstRefusal, step}
+use Rattle.hub.specs.Checks.{within, hasSpace, notSilent, fitting, firstRefusal}
+use Rattle.hub.specs.Step.{served, step}
 use Rattle.hub.specs.Valid.{ValidHub}
 use Rattle.hub.proofs.Order.{refused-by, served-by}
 use Rattle.area.specs.Written.{written}
-use Rattle.taken.specs.Read.{accepts}
+use Rattle.area_check.specs.Read.{accepts}
 use Rattle.area.specs.Read.{refusal, readOf}
-use Rattle.parts.specs.declared.Head.{Head}
-use Rattle.parts.specs.Parts.{headAt, bufferAt, slotsAt}
-use Rattle.parts.proofs.Exact.{parts-exact}
+use Rattle.area_parts.specs.declared.Head.{Head}
+use Rattle.area_parts.specs.Parts.{headAt, bufferAt, slotsAt}
+use Rattle.area_parts.proofs.Exact.{parts-exact}
 use Rattle.grimholdi.specs.declared.Answer.{Answer}
-use Rattle.grimholdi.specs.Entry.{saidOf, plainSaid, Gave, entry}
-use Rattle.grimholdi.proofs.Ways.{taken-hub, entry-taken, refuses, refuses-reply}
+use Rattle.grimholdi.specs.Outcome.{plainStruct, EntryOutcome}
+use Rattle.grimholdi.specs.Entry.{structOf, entry}
+use Rattle.grimholdi.proofs.Entries.{taken-hub, entry-taken, refuses, refuses-reply}
 
 pub none-written : (r : List ℕ) → payload.written [] r ≡ r
 unfolding payload.written
@@ -51,7 +53,7 @@ Leaves a c x u = (x ≡ entry a c [] .answer) × (u ≡ entry a c [] .area)
 abbrev pub Unchanged : List ℕ → Call → List ℕ → Answer → Type 0
 Unchanged a c r x = Gives a c r x a r
 
-pub not-taken : (a : List ℕ) → accepts a ≡ false → (c : Call) (r : List ℕ) (x : Answer) → x ≡ plainSaid 6 → Unchanged a c r x
+pub not-taken : (a : List ℕ) → accepts a ≡ false → (c : Call) (r : List ℕ) (x : Answer) → x ≡ plainStruct 6 → Unchanged a c r x
 not-taken a e c r x p = refuses-reply a (readOf a) refl (read-refused a e) c r x p
 
 -- no check refuses: the first of them held
@@ -59,7 +61,7 @@ pub all-held : (w r s : Bool) → 0 ≡ firstRefusal w r s true → w ≡ true
 all-held true r s p = refl
 all-held false r s p = let x : ⊥ = omega (arith, p) in absurd x
 
-pub turned-away : (a : List ℕ) → accepts a ≡ false → (c : Call) (x : Answer) → x ≡ plainSaid 6 → Leaves a c x a
+pub turned-away : (a : List ℕ) → accepts a ≡ false → (c : Call) (x : Answer) → x ≡ plainStruct 6 → Leaves a c x a
 turned-away a e c x p = refuses a (readOf a) refl (read-refused a e) c [] x p
 
 module _ (a : List ℕ) (ok : accepts a ≡ true) where
@@ -90,7 +92,7 @@ module _ (a : List ℕ) (ok : accepts a ≡ true) where
 
   -- ---- the order of checks
 
-  module _ (c : Call) {n : ℕ} {w r s : Bool} (g : n ≡ firstRefusal w r s true) (ew : w ≡ within hubIn c) (er : r ≡ roomy c) (es : s ≡ heard hubIn c) where
+  module _ (c : Call) {n : ℕ} {w r s : Bool} (g : n ≡ firstRefusal w r s true) (ew : w ≡ within hubIn c) (er : r ≡ hasSpace c) (es : s ≡ notSilent hubIn c) where
     pub early : ¬ (n ≡ 0) → step hubIn c ≡ plain hubIn n
     early z = sym (refused-by hubIn c refl (any w r s (fitting hubIn c) g) ew er es refl z)
       where
@@ -120,23 +122,23 @@ module _ (a : List ℕ) (ok : accepts a ≡ true) where
   -- ---- what it gives and leaves
 
   module _ (c : Call) (r : List ℕ) where
-    pub moves : (o : Outcome) → step hubIn c ≡ o → (x : Answer) (u v : List ℕ) → x ≡ saidOf (o .answer) → u ≡ written (o .next)
+    pub moves : (o : Outcome) → step hubIn c ≡ o → (x : Answer) (u v : List ℕ) → x ≡ structOf (o .answer) → u ≡ written (o .next)
         → v ≡ payload.written (o .answer .bytes) r → Gives a c r x u v
     moves o e x u v ex eu ev =
         let q = entry-taken a (readOf a) refl (read-taken a ok) c r in (
-          ex ∙ ap (λ (y : Outcome). saidOf (y .answer)) (sym e) ∙ ap (λ (g : Gave). g .answer) (sym q),
+          ex ∙ ap (λ (y : Outcome). structOf (y .answer)) (sym e) ∙ ap (λ (g : EntryOutcome). g .answer) (sym q),
           (
-            eu ∙ ap (λ (y : Outcome). written (y .next)) (sym e) ∙ ap (λ (g : Gave). g .area) (sym q),
-            ev ∙ ap (λ (y : Outcome). payload.written (y .answer .bytes) r) (sym e) ∙ ap (λ (g : Gave). g .reply) (sym q),
+            eu ∙ ap (λ (y : Outcome). written (y .next)) (sym e) ∙ ap (λ (g : EntryOutcome). g .area) (sym q),
+            ev ∙ ap (λ (y : Outcome). payload.written (y .answer .bytes) r) (sym e) ∙ ap (λ (g : EntryOutcome). g .reply) (sym q),
           ),
         )
 
-    pub stays : (n : ℕ) → step hubIn c ≡ plain hubIn n → (x : Answer) → x ≡ plainSaid n → Unchanged a c r x
+    pub stays : (n : ℕ) → step hubIn c ≡ plain hubIn n → (x : Answer) → x ≡ plainStruct n → Unchanged a c r x
     stays n e x ex = moves (plain hubIn n) e x a r ex form (sym (none-written r))
 
   module _ (c : Call) where
-    pub leaves : (o : Outcome) → step hubIn c ≡ o → (x : Answer) (u : List ℕ) → x ≡ saidOf (o .answer) → u ≡ written (o .next) → Leaves a c x u
+    pub leaves : (o : Outcome) → step hubIn c ≡ o → (x : Answer) (u : List ℕ) → x ≡ structOf (o .answer) → u ≡ written (o .next) → Leaves a c x u
     leaves o e x u ex eu = let q = moves c [] o e x u _ ex eu refl in (q .0, q .1 .0)
 
-    pub rests : (n : ℕ) → step hubIn c ≡ plain hubIn n → (x : Answer) → x ≡ plainSaid n → Leaves a c x a
+    pub rests : (n : ℕ) → step hubIn c ≡ plain hubIn n → (x : Answer) → x ≡ plainStruct n → Leaves a c x a
     rests n e x ex = leaves (plain hubIn n) e x a ex form

@@ -4,7 +4,8 @@ use Prim.Native.Nat.{ℕ}
 use mathlib.Core.List.{List, []}
 use lib.ListN.{length}
 use Rattle.hub.specs.Call.{Call, Control, Poll, Start, Complete, Launch, Deliver, Event, Tick, BusReset}
-use Rattle.grimholdi.specs.Entry.{Gave, entry}
+use Rattle.grimholdi.specs.Outcome.{EntryOutcome}
+use Rattle.grimholdi.specs.Entry.{entry}
 
 -- what C hands in beside the area: numbers, lent bytes, and the reply space as it lies in memory
 pub data Asked : Type 0 where
@@ -42,5 +43,5 @@ replyOf tick = []
 replyOf busReset = []
 
 -- what the entry of this call returns and leaves: the contracts of the code say this, field by field
-abbrev pub gives : List ℕ → Asked → Gave
+abbrev pub gives : List ℕ → Asked → EntryOutcome
 gives a x = entry a (callOf x) (replyOf x)

@@ -13,7 +13,7 @@ use Rattle.hub.specs.declared.Hub.{Hub}
 use Rattle.hub.specs.Call.{pidAnswer}
 use Rattle.area.specs.Written.{written}
 use Rattle.area.specs.Cases.{withBuffer, split, ready, old}
-use Rattle.grimholdi.specs.Entry.{saidOf}
+use Rattle.grimholdi.specs.Entry.{structOf}
 use Rattle.grimholdi.specs.Asked.{Asked, completeSplit, gives}
 
 -- bulk IN and bulk OUT, device 5, endpoint 1, lane 0
@@ -46,9 +46,9 @@ completeOut = completeSplit 0 5 1 0 (sevens 64)
 pub record EntryCases : Type 0 where
   -- its complete-split answers 9 with ACK (2), and the buffer is old; then the same again
   pub in-ack : gives (written readyInAck) completeIn
-      ≡ record { answer = saidOf (pidAnswer 9 2 []); area = written oldInAck; reply = sevens 64 }
+      ≡ record { answer = structOf (pidAnswer 9 2 []); area = written oldInAck; reply = sevens 64 }
   pub in-ack-again : gives (written oldInAck) completeIn
-      ≡ record { answer = saidOf (pidAnswer 9 2 []); area = written oldInAck; reply = sevens 64 }
+      ≡ record { answer = structOf (pidAnswer 9 2 []); area = written oldInAck; reply = sevens 64 }
   -- its complete-split answers 1 with DATA0 (3) and the 3 bytes
   pub out-data : gives (written oldOutData) completeOut
-      ≡ record { answer = saidOf (pidAnswer 1 3 (1 ∷ 2 ∷ 3 ∷ [])); area = written oldOutData; reply = 1 ∷ 2 ∷ 3 ∷ sevens 61 }
+      ≡ record { answer = structOf (pidAnswer 1 3 (1 ∷ 2 ∷ 3 ∷ [])); area = written oldOutData; reply = 1 ∷ 2 ∷ 3 ∷ sevens 61 }

@@ -1,3 +1,5 @@
+pub mod Version
+pub mod Outcome
 pub mod Entry
 pub mod Asked
 pub mod Runs

@@ -10,7 +10,7 @@ use Rattle.hub.specs.Step.{step}
 use Rattle.hub.specs.Valid.{ValidHub}
 use Rattle.runs.specs.Refusals.{Refusal, numberOf, Due, Serves}
 use Rattle.area.specs.Written.{written}
-use Rattle.grimholdi.specs.Entry.{Gave, refused}
+use Rattle.grimholdi.specs.Outcome.{EntryOutcome, refused}
 use Rattle.grimholdi.specs.Asked.{Asked, callOf, replyOf}
 use Rattle.grimholdi.specs.Runs.{seen}
 
@@ -19,7 +19,7 @@ abbrev pub Unwritten : List ℕ → Type 0
 Unwritten a = (h : Hub) → ValidHub h → ¬ (a ≡ written h)
 
 -- of entries that give g
-pub record EntryRefusals (g : List ℕ → Asked → Gave) : Type 0 where
+pub record EntryRefusals (g : List ℕ → Asked → EntryOutcome) : Type 0 where
   -- an area that is the written form of no valid hub answers 6, and nothing changes
   pub bad-area : (a : List ℕ) (x : Asked) → Unwritten a → g a x ≡ refused a (replyOf x)
   -- on any other, a refusal's number is answered exactly if the refusal is due

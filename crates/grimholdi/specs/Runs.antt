@@ -9,10 +9,11 @@ use Rattle.hub.specs.Call as hub
 use Rattle.runs.specs.Machine.{Machine, Numbers, afterFrom}
 use Rattle.runs.specs.Demand2.{reachedBy}
 use Rattle.area.specs.Written.{written, areaLength}
-use Rattle.grimholdi.specs.Entry.{Gave, newEntry}
+use Rattle.grimholdi.specs.Outcome.{EntryOutcome}
+use Rattle.grimholdi.specs.Entry.{newEntry}
 use Rattle.grimholdi.specs.Asked.{Asked, callOf, gives}
 
-abbrev pub seen : Gave → hub.Answer
+abbrev pub seen : EntryOutcome → hub.Answer
 seen g =
     record {
       number = g .answer .number;
@@ -39,7 +40,7 @@ filled m =
     newEntry (m .memory) (n .ports) (n .buffers) (n .powergood) (n .current) (n .removable) .area
 
 -- entries that give g: a claim over them takes any, so that the same words speak of entries with a mistake
-abbrev pub entriesBy : (List ℕ → Asked → Gave) → Machine
+abbrev pub entriesBy : (List ℕ → Asked → EntryOutcome) → Machine
 entriesBy g =
     record {
       State = List ℕ;
@@ -56,5 +57,5 @@ abbrev pub entries : Machine
 entries = entriesBy gives
 
 -- the area is the written form of the hub that the rules leave, each time
-abbrev pub AreaFollows : (List ℕ → Asked → Gave) → Type 0
+abbrev pub AreaFollows : (List ℕ → Asked → EntryOutcome) → Type 0
 AreaFollows g = (m : NewArea) (xs : List Asked) → afterFrom (entriesBy g) (filled m) xs ≡ written (reachedBy (m .numbers) (map callOf xs))

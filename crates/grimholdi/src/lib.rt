@@ -7,14 +7,16 @@ ghost use Rattle.buffer.specs.declared.Slot.the-variants.{Ready, Old};
 ghost use Rattle.translator.specs.declared.LowSide.the-variants.{Idle};
 ghost use Rattle.translator.specs.Answers.{choiceNumber, completeNumber, launchNumber, deliverNumber};
 ghost use Rattle.translator.specs.CompleteSplit.{given};
-ghost use Rattle.taken.specs.Read.{accepts};
+ghost use Rattle.area_check.specs.Read.{accepts};
 ghost use Rattle.area.specs.Written.{areaLength, writtenOver};
-ghost use Rattle.hub.specs.Call.{outcomeOf};
+ghost use Rattle.hub.specs.Method.{outcomeOf};
 ghost use Rattle.hub.specs.Rules.{launchAnswer};
-ghost use Rattle.parts.specs.Parts.{lowOver, bufferOver};
-ghost use Rattle.grimholdi.specs.Entry.{saidOf, plainSaid, resultSaid, newEntry};
+ghost use Rattle.area_parts.specs.Parts.{lowOver, bufferOver};
+ghost use Rattle.grimholdi.specs.Outcome.{plainStruct};
+ghost use Rattle.grimholdi.specs.Entry.{structOf, resultStruct, newEntry};
 ghost use Rattle.grimholdi.specs.Asked.{gives};
 ghost use Rattle.grimholdi.specs.Asked.Asked.{control, poll, startSplit, completeSplit, launch, deliver, lineEvent, tick, busReset};
+ghost use Rattle.grimholdi.specs.Version.{version};
 ghost use Rattle.grimholdi.specs.Claims.{EntryClaims};
 ghost use Rattle.grimholdi.specs.Mistakes.{EntryMistakesShutOut};
 ghost use Rattle.grimholdi.specs.Cases.{EntryCases};
@@ -53,7 +55,7 @@ pub struct Answer {
 
 // A number alone.
 fn plain_answer(number: u8) -> Answer
-    ensures { λ r. ⌜ r ≡ plainSaid number ⌝ }
+    ensures { λ r. ⌜ r ≡ plainStruct number ⌝ }
 {
     Answer {
         number,
@@ -71,33 +73,33 @@ fn plain_answer(number: u8) -> Answer
 
 // A launch that gives nothing.
 fn unlaunched(answer: LaunchAnswer) -> Answer
-    ensures { λ r. ⌜ r ≡ plainSaid (launchNumber answer) ⌝ }
+    ensures { λ r. ⌜ r ≡ plainStruct (launchNumber answer) ⌝ }
 {
     plain_answer(numbers::launch_answer(answer))
 }
 
 fn delivered(answer: DeliverAnswer) -> Answer
-    ensures { λ r. ⌜ r ≡ plainSaid (deliverNumber answer) ⌝ }
+    ensures { λ r. ⌜ r ≡ plainStruct (deliverNumber answer) ⌝ }
 {
     plain_answer(numbers::deliver_answer(answer))
 }
 
 // A complete-split that gives no result.
 fn uncompleted(answer: CompleteAnswer) -> Answer
-    ensures { λ r. ⌜ r ≡ plainSaid (completeNumber answer) ⌝ }
+    ensures { λ r. ⌜ r ≡ plainStruct (completeNumber answer) ⌝ }
 {
     plain_answer(numbers::complete_answer(answer))
 }
 
 fn started(choice: Choice) -> Answer
-    ensures { λ r. ⌜ r ≡ plainSaid (choiceNumber choice) ⌝ }
+    ensures { λ r. ⌜ r ≡ plainStruct (choiceNumber choice) ⌝ }
 {
     plain_answer(numbers::start_answer(StartAnswer::Chosen(choice)))
 }
 
 // What a call of the hub answers, as C sees it.
 fn answer_of(o: Stepped) -> Answer
-    ensures { λ r. ⌜ r ≡ saidOf (outcomeOf o .answer) ⌝ }
+    ensures { λ r. ⌜ r ≡ structOf (outcomeOf o .answer) ⌝ }
 {
     let reply = o.reply;
     let payload = o.payload;
@@ -117,7 +119,7 @@ fn answer_of(o: Stepped) -> Answer
 
 // The next hub into the area.
 fn settle(o: Stepped, area: &mut [u8]) -> Answer
-    ensures { λ r. ⌜ r ≡ saidOf (outcomeOf o .answer) ⌝ }
+    ensures { λ r. ⌜ r ≡ structOf (outcomeOf o .answer) ⌝ }
     ensures area { λ _. ⌜ now (area .exit) ≡ writtenOver (o .hub) (now (area .entry)) ⌝ }
 {
     let hub = o.hub;
@@ -127,7 +129,7 @@ fn settle(o: Stepped, area: &mut [u8]) -> Answer
 
 // The bytes into the reply space.
 fn give_reply(o: Stepped, reply: &mut [u8]) -> Answer
-    ensures { λ r. ⌜ r ≡ saidOf (outcomeOf o .answer) ⌝ }
+    ensures { λ r. ⌜ r ≡ structOf (outcomeOf o .answer) ⌝ }
     ensures reply { λ _. ⌜ now (reply .exit) ≡ writtenBytes (content (o .payload)) (now (reply .entry)) ⌝ }
 {
     let payload = o.payload;
@@ -137,7 +139,7 @@ fn give_reply(o: Stepped, reply: &mut [u8]) -> Answer
 
 // The next hub into the area, and the bytes into the reply space.
 fn settle_reply(o: Stepped, area: &mut [u8], reply: &mut [u8]) -> Answer
-    ensures { λ r. ⌜ r ≡ saidOf (outcomeOf o .answer) ⌝ }
+    ensures { λ r. ⌜ r ≡ structOf (outcomeOf o .answer) ⌝ }
     ensures area { λ _. ⌜ now (area .exit) ≡ writtenOver (o .hub) (now (area .entry)) ⌝ }
     ensures reply { λ _. ⌜ now (reply .exit) ≡ writtenBytes (content (o .payload)) (now (reply .entry)) ⌝ }
 {
@@ -150,7 +152,7 @@ fn settle_reply(o: Stepped, area: &mut [u8], reply: &mut [u8]) -> Answer
 
 // A launched transaction.
 fn launch_answer(split: StartSplit, payload: Payload) -> Answer
-    ensures { λ r. ⌜ r ≡ saidOf (launchAnswer split (content payload)) ⌝ }
+    ensures { λ r. ⌜ r ≡ structOf (launchAnswer split (content payload)) ⌝ }
 {
     let pid = split.pid;
     let transfer = split.transfer;
@@ -175,7 +177,7 @@ fn launch(area: &mut [u8], reply: &mut [u8]) -> Answer
     ensures area { λ _. ⌜ now (area .exit) ≡ gives (now (area .entry)) (launch (now (reply .entry))) .area ⌝ }
     ensures reply { λ _. ⌜ now (reply .exit) ≡ gives (now (area .entry)) (launch (now (reply .entry))) .reply ⌝ }
 {
-    let head = parts::head_at(area);
+    let head = area_parts::head_at(area);
     let refusal = hub::first_refusal(true, 64 <= reply.len(), head.configured, true);
     if refusal != 0 {
         return plain_answer(refusal);
@@ -183,17 +185,17 @@ fn launch(area: &mut [u8], reply: &mut [u8]) -> Answer
     let low = head.low;
     match low {
         LowSide::Idle => {
-            let slots = parts::slots_at(area, head.ports);
+            let slots = area_parts::slots_at(area, head.ports);
             match translator::earliest_of(slots, head.count) {
                 Earliest::NonePending => unlaunched(LaunchAnswer::NothingPending),
                 Earliest::Stored(n, _) => {
-                    let b = parts::buffer_at(area, head.ports, n);
+                    let b = area_parts::buffer_at(area, head.ports, n);
                     let slot = b.slot;
                     let payload = b.payload;
                     match slot {
                         Slot::Empty => unlaunched(LaunchAnswer::NothingPending),
                         Slot::Pending(split, _) => {
-                            parts::write_low(LowSide::Running(n), area);
+                            area_parts::write_low(LowSide::Running(n), area);
                             payload.give(reply);
                             launch_answer(split, payload)
                         }
@@ -219,12 +221,12 @@ fn put_result(
 )
     ensures { λ _. ⌜ now (area .exit) ≡ bufferOver (ports .0) n (record { slot = Ready split result; payload = payloadOf (now (payload .entry)) }) (lowOver Idle (now (area .entry))) ⌝ }
 {
-    parts::write_low(LowSide::Idle, area);
+    area_parts::write_low(LowSide::Idle, area);
     let ready = Buffer {
         slot: Slot::Ready(split, result),
         payload: Payload::of(payload),
     };
-    parts::write_buffer(ports, n, ready, area);
+    area_parts::write_buffer(ports, n, ready, area);
 }
 
 fn deliver(area: &mut [u8], result: u32, payload: &[u8]) -> Answer
@@ -233,8 +235,8 @@ fn deliver(area: &mut [u8], result: u32, payload: &[u8]) -> Answer
     ensures area { λ _. ⌜ now (area .exit) ≡ gives (now (area .entry)) (deliver result (now (payload .entry))) .area ⌝ }
 {
     let kind = numbers::result_of(result);
-    let within = logic::both(numbers::is_result(result), kind.carries(payload.len()));
-    let head = parts::head_at(area);
+    let within = bools::both(numbers::is_result(result), kind.carries(payload.len()));
+    let head = area_parts::head_at(area);
     let refusal = hub::first_refusal(within, true, head.configured, true);
     if refusal != 0 {
         return plain_answer(refusal);
@@ -243,7 +245,7 @@ fn deliver(area: &mut [u8], result: u32, payload: &[u8]) -> Answer
     match low {
         LowSide::Idle => delivered(DeliverAnswer::NotInThisState),
         LowSide::Running(n) => {
-            let slot = parts::slot_at(area, head.ports, n);
+            let slot = area_parts::slot_at(area, head.ports, n);
             match slot {
                 Slot::Empty => delivered(DeliverAnswer::NotInThisState),
                 Slot::Pending(split, _) => {
@@ -259,7 +261,7 @@ fn deliver(area: &mut [u8], result: u32, payload: &[u8]) -> Answer
             }
         }
         LowSide::Abandoned => {
-            parts::write_low(LowSide::Idle, area);
+            area_parts::write_low(LowSide::Idle, area);
             delivered(DeliverAnswer::Done)
         }
     }
@@ -267,7 +269,7 @@ fn deliver(area: &mut [u8], result: u32, payload: &[u8]) -> Answer
 
 // A result, with the bytes of data.
 fn give_result(result: DeviceResult, payload: Payload, reply: &mut [u8]) -> Answer
-    ensures { λ r. ⌜ r ≡ resultSaid result (content (given result payload)) ⌝ }
+    ensures { λ r. ⌜ r ≡ resultStruct result (content (given result payload)) ⌝ }
     ensures reply { λ _. ⌜ now (reply .exit) ≡ writtenBytes (content (given result payload)) (now (reply .entry)) ⌝ }
 {
     let data = translator::give(result, payload);
@@ -301,7 +303,7 @@ fn put_old(
         slot: Slot::Old(split, result),
         payload,
     };
-    parts::write_buffer(ports, n, old, area);
+    area_parts::write_buffer(ports, n, old, area);
 }
 
 fn complete_split(
@@ -318,17 +320,17 @@ fn complete_split(
     ensures reply { λ _. ⌜ now (reply .exit) ≡ gives (now (area .entry)) (completeSplit lane address endpoint direction (now (reply .entry))) .reply ⌝ }
 {
     let named = numbers::key_named(lane, address, endpoint, direction);
-    let head = parts::head_at(area);
+    let head = area_parts::head_at(area);
     let refusal = hub::first_refusal(named, 64 <= reply.len(), head.configured, true);
     if refusal != 0 {
         return plain_answer(refusal);
     }
-    let slots = parts::slots_at(area, head.ports);
+    let slots = area_parts::slots_at(area, head.ports);
     let key = numbers::key_of(lane, address, endpoint, direction);
     match translator::holder(slots, head.count, key) {
         Found::Nowhere => uncompleted(CompleteAnswer::NoMatch),
         Found::At(n) => {
-            let b = parts::buffer_at(area, head.ports, n);
+            let b = area_parts::buffer_at(area, head.ports, n);
             let slot = b.slot;
             let payload = b.payload;
             match slot {
@@ -361,29 +363,36 @@ fn start_split(
 {
     let split = numbers::split_of(lane, pid, transfer, lowspeed, toggle, address, endpoint);
     let named = numbers::split_named(lane, pid, transfer, lowspeed, toggle, address, endpoint);
-    let within = logic::both(named, split.fits(payload.len()));
-    let head = parts::head_at(area);
+    let within = bools::both(named, split.fits(payload.len()));
+    let head = area_parts::head_at(area);
     let refusal = hub::first_refusal(within, true, head.configured, true);
     if refusal != 0 {
         return plain_answer(refusal);
     }
-    let slots = parts::slots_at(area, head.ports);
+    let slots = area_parts::slots_at(area, head.ports);
     match translator::choose(slots, head.count, split.key()) {
         Choice::NoRoom => started(Choice::NoRoom),
         Choice::LimitReached => started(Choice::LimitReached),
         Choice::Held(n) => started(Choice::Held(n)),
         Choice::Reused(n) => {
-            parts::store(slots, head.ports, n, split, payload, area);
+            area_parts::store(slots, head.ports, n, split, payload, area);
             started(Choice::Reused(n))
         }
         Choice::Took(n) => {
-            parts::store(slots, head.ports, n, split, payload, area);
+            area_parts::store(slots, head.ports, n, split, payload, area);
             started(Choice::Took(n))
         }
     }
 }
 
 // ---- the entries
+
+#[no_mangle]
+pub extern "C" fn grimholdi_version() -> u32
+    ensures { λ r. ⌜ r ≡ version ⌝ }
+{
+    500
+}
 
 // The length of the area of a hub; 0 where a number is outside the rules.
 #[no_mangle]
@@ -437,11 +446,11 @@ pub extern "C" fn grimholdi_control(
     plain_answer(6)
 }
 
-// A poll changes no hub, so nothing is written to the area.
+// A poll changes no hub: the area is lent to be read, and stays as `gives` leaves it.
 #[no_mangle]
-pub extern "C" fn grimholdi_poll(area: &mut [u8], lane: u32, reply: &mut [u8]) -> Answer
+pub extern "C" fn grimholdi_poll(area: &[u8], lane: u32, reply: &mut [u8]) -> Answer
     ensures { λ r. ⌜ r ≡ gives (now (area .entry)) (poll lane (now (reply .entry))) .answer ⌝ }
-    ensures area { λ _. ⌜ now (area .exit) ≡ gives (now (area .entry)) (poll lane (now (reply .entry))) .area ⌝ }
+    ensures area { λ _. ⌜ now (area .entry) ≡ gives (now (area .entry)) (poll lane (now (reply .entry))) .area ⌝ }
     ensures reply { λ _. ⌜ now (reply .exit) ≡ gives (now (area .entry)) (poll lane (now (reply .entry))) .reply ⌝ }
 {
     let read = area::read_area(area);
@@ -467,7 +476,7 @@ pub extern "C" fn grimholdi_start_split(
     ensures { λ r. ⌜ r ≡ gives (now (area .entry)) (startSplit lane pid transfer lowspeed toggle address endpoint (now (payload .entry))) .answer ⌝ }
     ensures area { λ _. ⌜ now (area .exit) ≡ gives (now (area .entry)) (startSplit lane pid transfer lowspeed toggle address endpoint (now (payload .entry))) .area ⌝ }
 {
-    if taken::is_taken(area) {
+    if area_check::is_area(area) {
         return start_split(
             area,
             lane,
@@ -496,7 +505,7 @@ pub extern "C" fn grimholdi_complete_split(
     ensures area { λ _. ⌜ now (area .exit) ≡ gives (now (area .entry)) (completeSplit lane address endpoint direction (now (reply .entry))) .area ⌝ }
     ensures reply { λ _. ⌜ now (reply .exit) ≡ gives (now (area .entry)) (completeSplit lane address endpoint direction (now (reply .entry))) .reply ⌝ }
 {
-    if taken::is_taken(area) {
+    if area_check::is_area(area) {
         return complete_split(area, lane, address, endpoint, direction, reply);
     }
     plain_answer(6)
@@ -508,7 +517,7 @@ pub extern "C" fn grimholdi_launch(area: &mut [u8], reply: &mut [u8]) -> Answer
     ensures area { λ _. ⌜ now (area .exit) ≡ gives (now (area .entry)) (launch (now (reply .entry))) .area ⌝ }
     ensures reply { λ _. ⌜ now (reply .exit) ≡ gives (now (area .entry)) (launch (now (reply .entry))) .reply ⌝ }
 {
-    if taken::is_taken(area) {
+    if area_check::is_area(area) {
         return launch(area, reply);
     }
     plain_answer(6)
@@ -519,7 +528,7 @@ pub extern "C" fn grimholdi_deliver(area: &mut [u8], result: u32, payload: &[u8]
     ensures { λ r. ⌜ r ≡ gives (now (area .entry)) (deliver result (now (payload .entry))) .answer ⌝ }
     ensures area { λ _. ⌜ now (area .exit) ≡ gives (now (area .entry)) (deliver result (now (payload .entry))) .area ⌝ }
 {
-    if taken::is_taken(area) {
+    if area_check::is_area(area) {
         return deliver(area, result, payload);
     }
     plain_answer(6)

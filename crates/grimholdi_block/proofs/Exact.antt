@@ -9,16 +9,16 @@ use lib.Dec.{eqb, leb}
 use lib.ListN.{length, take, drop, replicate, length-append, length-replicate, replicate-append-replicate, take-append-drop, length-drop}
 use lib.Seq.{take-at, drop-at, take-length, drop-append-add, length-take-le}
 use Rattle.hub.specs.Call.{Call}
-use Rattle.taken.specs.Rows.{blank}
+use Rattle.area_check.specs.Rows.{blank}
 use Rattle.call_bytes.specs.Words.{half, halfAt}
 use Rattle.call_bytes.specs.Table.{isKnown}
 use Rattle.call_bytes.specs.Written.{written, Bytes}
-use Rattle.call_bytes.specs.Read.{readOf, callIn, Takes}
+use Rattle.call_bytes.specs.Claims.{Takes}
+use Rattle.call_bytes.specs.Read.{readOf, callIn}
 use Rattle.call_bytes.proofs.Exact.{record-exact, half-lt}
-use Rattle.recording.specs.Calls.{writtenAll, AllFit}
+use Rattle.recording.specs.Written.{writtenAll, AllFit, countOf, padded, unchecked, checkOf, blockOf, Writable}
 use Rattle.recording.specs.declared.Verdict.the-variants.{Good}
-use Rattle.recording.specs.Block.{lengthFits, countOf, countFits, recordsFit, isFilled, callsAt, verdictOf, isGood}
-use Rattle.recording.specs.Written.{padded, unchecked, checkOf, blockOf, Writable}
+use Rattle.recording.specs.Block.{lengthFits, countFits, recordsFit, isFilled, callsAt, verdictOf, isGood}
 use Rattle.recording.proofs.Blocks.{not-zero, passed, made, front-length, made-length, made-count, made-zeros, made-last, made-sum, made-calls, Filled, filled}
 use Rattle.grimholdi_block.specs.Writing.{Wrote, wrote, placed, begun, startEntry, isWaiting, isUnderWay, isWhole, longer, addEntry, numbered, sealed, finishEntry}
 use Rattle.grimholdi_block.specs.Writer.{underWay, addAll, IsRecord, UnderWay, Keeps, WriterExact}

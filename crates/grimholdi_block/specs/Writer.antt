@@ -7,10 +7,9 @@ use lib.ListN.{length}
 use Rattle.hub.specs.Call.{Call}
 use Rattle.call_bytes.specs.Words.{half, halfAt}
 use Rattle.call_bytes.specs.Written.{written, Bytes, Fits}
-use Rattle.recording.specs.Calls.{writtenAll}
+use Rattle.recording.specs.Written.{writtenAll, countOf, unchecked, blockOf, Writable}
 use Rattle.recording.specs.declared.Verdict.the-variants.{Good}
-use Rattle.recording.specs.Block.{countOf, verdictOf}
-use Rattle.recording.specs.Written.{unchecked, blockOf, Writable}
+use Rattle.recording.specs.Block.{verdictOf}
 use Rattle.grimholdi_block.specs.Writing.{Wrote, wrote, startEntry, addEntry, finishEntry}
 
 -- the calls cs in a block under way, which will be the block at the place p

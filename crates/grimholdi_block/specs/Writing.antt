@@ -1,4 +1,4 @@
--- What each writing entry answers and leaves, for any memory. A reader need not believe these: `WriterExact` says what they come to.
+-- Internal, pinned by `WriterExact` (Writer.antt), which says what they come to: what each writing entry answers and leaves, for any memory.
 use Prim.Native.Nat.{ℕ, _+_}
 use mathlib.Core.Bool.{Bool, cond, not, _&&_}
 use mathlib.Core.List.{List, _++_}
@@ -7,8 +7,8 @@ use lib.ListN.{length, take, drop, replicate}
 use Rattle.call_bytes.specs.Words.{half, halfAt}
 use Rattle.call_bytes.specs.Table.{isKnown}
 use Rattle.call_bytes.specs.Read.{readOf}
-use Rattle.recording.specs.Block.{lengthFits, countOf, isFilled}
-use Rattle.recording.specs.Written.{checkOf}
+use Rattle.recording.specs.Written.{countOf, checkOf}
+use Rattle.recording.specs.Block.{lengthFits, isFilled}
 
 -- what an entry answers, and the block that it leaves
 pub record Wrote : Type 0 where

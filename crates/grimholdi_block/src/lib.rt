@@ -3,7 +3,7 @@ ghost use mathlib.Core.Path.{_≡_};
 ghost use Prim.Native.Nat.{_+_, _≤_};
 ghost use lib.ListN.{length};
 ghost use Rattle.call_bytes.specs.Words.{half};
-ghost use Rattle.recording.specs.Block.{countOf};
+ghost use Rattle.recording.specs.Written.{countOf};
 ghost use Rattle.grimholdi_block.specs.Writing.{placed, isWaiting, isUnderWay, isWhole, longer, sealed, startEntry, addEntry, finishEntry};
 ghost use Rattle.grimholdi_block.specs.Writer.{WriterExact};
 
@@ -56,7 +56,7 @@ pub extern "C" fn grimholdi_block_start(block: &mut [u8], number: u32) -> u8
 fn is_waiting(block: &[u8]) -> bool
     ensures { λ r. ⌜ r ≡ isWaiting (now (block .entry)) ⌝ }
 {
-    logic::both(
+    bools::both(
         call_bytes::half_at(block, 0) == 0,
         call_bytes::half_at(block, 510) != 0,
     )
@@ -80,7 +80,7 @@ fn is_whole(form: &[u8]) -> bool
 {
     let read = call_bytes::read_record(form);
     let kind = read.kind;
-    logic::both(call_bytes::is_known(kind), read.length == form.len())
+    bools::both(call_bytes::is_known(kind), read.length == form.len())
 }
 
 // The record behind those that there are.

@@ -19,7 +19,8 @@ use Rattle.area.proofs.Exact.{area-exact}
 use Rattle.call_bytes.specs.Table.{isKnown}
 use Rattle.call_bytes.specs.Read.{readOf, callIn}
 use Rattle.recording.specs.Calls.{consTo, callsIn, listed}
-use Rattle.recording.specs.Block.{countOf, usedOf, verdictOf, isGood, callsAt}
+use Rattle.recording.specs.Written.{countOf, usedOf}
+use Rattle.recording.specs.Block.{verdictOf, isGood, callsAt}
 use Rattle.recording.proofs.Blocks.{Passed, passed}
 use Rattle.replay.specs.Answers.{headBytes, answerBytes, answersIn}
 use Rattle.replay.specs.Replay.{blockPlayed}

@@ -1,3 +1,3 @@
 pub mod Kept
-pub mod Ways
+pub mod Entry
 pub mod Through

@@ -24,15 +24,14 @@ use Rattle.recording.specs.Refusals.{Told}
 use Rattle.recording.proofs.Blocks.{block-exact}
 use Rattle.recording.proofs.Refusals.{block-refusals}
 use Rattle.replay.specs.Answers.{answersIn}
-use Rattle.replay.specs.Code.{answersLength, isRoomy}
-use Rattle.replay.specs.Replay.{Recording, Stop, Replayed, Played, andThen, replayFrom, seenAs, ReplayExact, playedCalls, playedNone, blockPlayed, byValue}
-use Rattle.replay.specs.Replay.{blocksOf, AllWritable, joined}
+use Rattle.replay.specs.Code.{answersLength, isEnough}
+use Rattle.replay.specs.Replay.{Recording, Stop, Replayed, Played, andThen, replayFrom, seenAs, ReplayExact, playedCalls, playedNone, blockPlayed, byValue, blocksOf, AllWritable, joined}
 use Rattle.replay.proofs.Replays.{sums, replay-claims}
 use Rattle.grimholdi.specs.Asked.{Asked, callOf}
 use Rattle.grimholdi.specs.Runs.{NewArea}
 use Rattle.grimholdi.proofs.Carried.{new-hub, filled-is}
 use Rattle.grimholdi.proofs.Claimed.{entry-claims}
-use Rattle.grimholdi_replay.specs.Entry.{refusalNumber, Gave, refused, gaveBy, blockEntry}
+use Rattle.grimholdi_replay.specs.Entry.{refusalNumber, ReplayOutcome, refused, carriedOut, blockEntry}
 use Rattle.grimholdi_replay.specs.Replays.{verdictNumbered, throughEntry, Large, SessionReplays, EntryReplays}
 use Rattle.grimholdi_replay.proofs.Kept.{played-kept}
 
@@ -46,12 +45,12 @@ bad-area a p b o e = rw e
 behind : (a : List ℕ) (p : ℕ) (b o : List ℕ)
     → drop (blockEntry a p b o .answer .length) (blockEntry a p b o .answers) ≡ drop (blockEntry a p b o .answer .length) o
 unfolding blockEntry
-behind a p b o = go (readOf a .ok) refl (isRoomy (length o)) refl
+behind a p b o = go (readOf a .ok) refl (isEnough (length o)) refl
   where
     l : List ℕ
     l = blockPlayed (readOf a .hub) p b .output
 
-    go : (x : Bool) → readOf a .ok ≡ x → (y : Bool) → isRoomy (length o) ≡ y
+    go : (x : Bool) → readOf a .ok ≡ x → (y : Bool) → isEnough (length o) ≡ y
         → drop (blockEntry a p b o .answer .length) (blockEntry a p b o .answers) ≡ drop (blockEntry a p b o .answer .length) o
     go false e y f = rw e
     go true e false f = rw (e, f)
@@ -83,7 +82,7 @@ played-none h p b n = go (verdictOf p b) refl
     go BadRecord e = rw e
 
 module _ (h : Hub) (v : ValidHub h) (p : ℕ) (b o : List ℕ) where
-  replayed : answersLength ≤ length o → blockEntry (written h) p b o ≡ gaveBy (blockPlayed h p b) o
+  replayed : answersLength ≤ length o → blockEntry (written h) p b o ≡ carriedOut (blockPlayed h p b) o
   unfolding blockEntry
   replayed room = rw (area-exact .again h v, le-leb answersLength (length o) room)
 
@@ -91,21 +90,21 @@ module _ (h : Hub) (v : ValidHub h) (p : ℕ) (b o : List ℕ) where
   unfolding blockEntry
   no-space small = rw (area-exact .again h v, lt-leb answersLength (length o) small)
 
-  good-block : (cs : List Call) → answersLength ≤ length o → Bytes b → IsBlock p cs b → blockEntry (written h) p b o ≡ gaveBy (playedCalls h cs) o
+  good-block : (cs : List Call) → answersLength ≤ length o → Bytes b → IsBlock p cs b → blockEntry (written h) p b o ≡ carriedOut (playedCalls h cs) o
   good-block cs room y i =
       let g = block-exact .exact p b cs y .1 i in
-      replayed room ∙ ap (λ (x : Played Hub). gaveBy x o) (played-good h p b (g .0) ∙ ap (playedCalls h) (g .1))
+      replayed room ∙ ap (λ (x : Played Hub). carriedOut x o) (played-good h p b (g .0) ∙ ap (playedCalls h) (g .1))
 
-  bad-block : (w : Verdict) → answersLength ≤ length o → Bytes b → ¬ (w ≡ Good) → Told w p b → blockEntry (written h) p b o ≡ gaveBy (playedNone h w) o
+  bad-block : (w : Verdict) → answersLength ≤ length o → Bytes b → ¬ (w ≡ Good) → Told w p b → blockEntry (written h) p b o ≡ carriedOut (playedNone h w) o
   bad-block w room y n t =
       let e : verdictOf p b ≡ w = block-refusals w p b y .1 t in
-      replayed room ∙ ap (λ (x : Played Hub). gaveBy x o) (played-none h p b (λ g. n (sym e ∙ g)) ∙ ap (playedNone h) e)
+      replayed room ∙ ap (λ (x : Played Hub). carriedOut x o) (played-none h p b (λ g. n (sym e ∙ g)) ∙ ap (playedNone h) e)
 
   active : answersLength ≤ length o → blockEntry (written h) p b o .answer .active ≡ activeBuffers (readOf (blockEntry (written h) p b o .area) .hub)
   active room =
-      ap (λ (g : Gave). g .answer .active) (replayed room)
+      ap (λ (g : ReplayOutcome). g .answer .active) (replayed room)
       ∙ ap (λ (r : Read). activeBuffers (r .hub)) (sym (area-exact .again (blockPlayed h p b .state) (played-kept h p b v .valid)))
-      ∙ ap (λ (g : Gave). activeBuffers (readOf (g .area) .hub)) (sym (replayed room))
+      ∙ ap (λ (g : ReplayOutcome). activeBuffers (readOf (g .area) .hub)) (sym (replayed room))
 
 -- ---- block after block
 
@@ -117,7 +116,7 @@ module _ (memory : ℕ → List ℕ) (large : Large memory) where
   through : (h : Hub) → ValidHub h → (p : ℕ) (b : List ℕ) → throughEntry memory .block (written h) p b ≡ asArea (blockPlayed h p b)
   through h v p b =
       ap
-      (λ (g : Gave). record {
+      (λ (g : ReplayOutcome). record {
         output = take (g .answer .length) (g .answers);
         state = g .area;
         tally = record { stored = g .answer .stored; answered = g .answer .answered; emptied = g .answer .emptied };

@@ -11,7 +11,7 @@ use Rattle.area.specs.Read.{readOf}
 use Rattle.recording.specs.declared.Verdict.{Verdict}
 use Rattle.recording.specs.declared.Verdict.the-variants.{Good, BadLength, BadCheck, BadNumber, BadCount, BadRecord}
 use Rattle.replay.specs.Replay.{Played, blockPlayed}
-use Rattle.replay.specs.Code.{isRoomy, putFirst}
+use Rattle.replay.specs.Code.{isEnough, putFirst}
 use Rattle.grimholdi_replay.specs.declared.Replayed.{Replayed}
 
 -- in the order of the tests
@@ -40,18 +40,18 @@ replayedAs a =
     }
 
 -- what the entry returns and leaves
-pub record Gave : Type 0 where
+pub record ReplayOutcome : Type 0 where
   pub answer : Replayed
   pub area : List ℕ
   pub answers : List ℕ
 
-abbrev pub refused : ℕ → List ℕ → List ℕ → Gave
+abbrev pub refused : ℕ → List ℕ → List ℕ → ReplayOutcome
 refused n a o = record { answer = plainReplayed n; area = a; answers = o }
 
-abbrev pub gaveBy : Played Hub → List ℕ → Gave
-gaveBy x o = record { answer = replayedAs x; area = written (x .state); answers = putFirst (x .output) o }
+abbrev pub carriedOut : Played Hub → List ℕ → ReplayOutcome
+carriedOut x o = record { answer = replayedAs x; area = written (x .state); answers = putFirst (x .output) o }
 
 -- the block b at the place p, on the area a, with the answers' space o
-unfoldable pub blockEntry : List ℕ → ℕ → List ℕ → List ℕ → Gave
+unfoldable pub blockEntry : List ℕ → ℕ → List ℕ → List ℕ → ReplayOutcome
 blockEntry a p b o =
-    cond (readOf a .ok) (cond (isRoomy (length o)) (gaveBy (blockPlayed (readOf a .hub) p b) o) (refused 7 a o)) (refused 6 a o)
+    cond (readOf a .ok) (cond (isEnough (length o)) (carriedOut (blockPlayed (readOf a .hub) p b) o) (refused 7 a o)) (refused 6 a o)

@@ -25,7 +25,7 @@ use Rattle.replay.specs.Replay.{Player, replayFrom, ReplayExact, ReplayAddsUp, 
 use Rattle.grimholdi.specs.Asked.{Asked, callOf}
 use Rattle.grimholdi.specs.Runs.{NewArea, filled, entries}
 use Rattle.grimholdi.specs.Refusals.{Unwritten}
-use Rattle.grimholdi_replay.specs.Entry.{refused, gaveBy, blockEntry}
+use Rattle.grimholdi_replay.specs.Entry.{refused, carriedOut, blockEntry}
 
 -- the verdict that a refusal's number stands for
 abbrev pub verdictNumbered : ℕ → Verdict
@@ -71,10 +71,10 @@ pub record EntryReplays : Type 0 where
       → blockEntry (written h) p b o ≡ refused 7 (written h) o
   -- else a block that is the written form of calls at its place answers 0, and they are made, ..
   pub good-block : (h : Hub) (p : ℕ) (b o : List ℕ) (cs : List Call) → ValidHub h → answersLength ≤ length o → Bytes b → IsBlock p cs b
-      → blockEntry (written h) p b o ≡ gaveBy (playedCalls h cs) o
+      → blockEntry (written h) p b o ≡ carriedOut (playedCalls h cs) o
   -- .. and any other is refused with the verdict that is to be told, and nothing changes
   pub bad-block : (h : Hub) (p : ℕ) (b o : List ℕ) (v : Verdict) → ValidHub h → answersLength ≤ length o → Bytes b → ¬ (v ≡ Good) → Told v p b
-      → blockEntry (written h) p b o ≡ gaveBy (playedNone h v) o
+      → blockEntry (written h) p b o ≡ carriedOut (playedNone h v) o
   -- no byte behind the answers is written
   pub behind : (a : List ℕ) (p : ℕ) (b o : List ℕ)
       → drop (blockEntry a p b o .answer .length) (blockEntry a p b o .answers) ≡ drop (blockEntry a p b o .answer .length) o

@@ -61,7 +61,7 @@ pub extern "C" fn grimholdi_replay_block(
     }
     let hub = read.hub;
     let done = replay::replay_block(hub, place, block, answers);
-    if !done.roomy {
+    if !done.enough {
         return plain_replayed(7);
     }
     let next = done.hub;

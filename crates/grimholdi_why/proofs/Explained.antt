@@ -28,7 +28,7 @@ use Rattle.area.specs.Written.{written}
 use Rattle.area.specs.declared.Read.{Read}
 use Rattle.area.specs.Read.{readOf}
 use Rattle.area.proofs.Exact.{area-exact}
-use Rattle.grimholdi.specs.Entry.{Gave}
+use Rattle.grimholdi.specs.Outcome.{EntryOutcome}
 use Rattle.grimholdi.specs.Asked.{Asked, startSplit, callOf, gives}
 use Rattle.grimholdi.specs.Runs.{seen}
 use Rattle.grimholdi_why.specs.Explained.{entryReason, explains, explainedEntries, EntryReasons}
@@ -73,7 +73,7 @@ module _ (h : Hub) (v : ValidHub h) where
 
   given : (x : Asked) → (explains (written h) x ≡ Nothing) ↔ (getsReason (callOf x) (gives (written h) x .answer .number) ≡ false)
   given x =
-      let n = ap (λ (g : Gave). getsReason (callOf x) (g .answer .number)) (gives-taken h v x) in
+      let n = ap (λ (g : EntryOutcome). getsReason (callOf x) (g .answer .number)) (gives-taken h v x) in
       let w = why-claims .given h (callOf x) v in
       let r = reason-same (callOf x) in
       (λ e. n ∙ w .0 (sym r ∙ e), λ e. r ∙ w .1 (sym n ∙ e))

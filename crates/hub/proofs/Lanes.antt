@@ -10,8 +10,10 @@ use lib.ListN.{length}
 use Rattle.numbers.specs.Named.{isLane}
 use Rattle.numbers.specs.Split.{splitNamed, keyNamed}
 use Rattle.hub.specs.declared.Hub.{Hub}
-use Rattle.hub.specs.Call.{Call, Control, Poll, Start, Complete, Launch, Deliver, Event, Tick, BusReset, laneOf, refuse}
-use Rattle.hub.specs.Step.{within, step}
+use Rattle.hub.specs.Claims.{laneOf}
+use Rattle.hub.specs.Call.{Call, Control, Poll, Start, Complete, Launch, Deliver, Event, Tick, BusReset, refuse}
+use Rattle.hub.specs.Checks.{within}
+use Rattle.hub.specs.Step.{step}
 
 no-lane : (z y : ℕ) → _≡_ {A = Option ℕ} (some y) (some z) → 2 ≤ z → isLane y ≡ false
 no-lane z y e l = let same : y ≡ z = cc in rw (ne-eqb y 0 (λ q. omega (arith, q, l, same)), ne-eqb y 1 (λ q. omega (arith, q, l, same)))

@@ -2,7 +2,7 @@ pub mod Order
 pub mod Numbers
 pub mod Tells
 pub mod NewNumbers
-pub mod Ways
+pub mod Calls
 pub mod Ports
 pub mod Valid
 pub mod Refused

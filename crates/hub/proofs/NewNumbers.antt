@@ -9,9 +9,9 @@ use lib.Dec.{eqb, leb, ltb}
 use lib.Pow.{pow-pos}
 use lib.ListN.{getD}
 use borrow.Author.Tests.{eqb-true, eqb-false, eq-eqb, leb-true, ltb-true, ltb-false}
-use Rattle.port.specs.Claims.{bitsOf}
+use Rattle.port.specs.Words.{bitsOf}
 use Rattle.hub.specs.Hub.{newFits}
-use Rattle.hub.specs.Claims.{CountsOutside, RemovableOutside, NewOutside}
+use Rattle.hub.specs.New.{CountsOutside, RemovableOutside, NewOutside}
 use Rattle.hub.proofs.Numbers.{left, right, below-256}
 use Rattle.hub.proofs.Tells.{Tells, tested, both-tell, regrouped, not-over, below-tells}
 

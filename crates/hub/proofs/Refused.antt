@@ -34,7 +34,8 @@ use Rattle.hub.specs.Hub.{withTranslator}
 use Rattle.hub.specs.Call.{Call, Control, Poll, Start, Complete, Launch, Deliver, Event, Tick, BusReset, Outcome, plain, refuse, gives}
 use Rattle.hub.specs.Requests.{byRequest, servedAlways, requested}
 use Rattle.hub.specs.Rules.{polled, startedAs, completedBy, completedAs, launchedBy, launchedAs, deliveredAs}
-use Rattle.hub.specs.Step.{within, fitting, served, step}
+use Rattle.hub.specs.Checks.{within, fitting}
+use Rattle.hub.specs.Step.{served, step}
 use Rattle.hub.proofs.Order.{by-step}
 use Rattle.hub.proofs.Numbers.{right}
 

@@ -15,7 +15,7 @@ use Rattle.ports.specs.declared.Sweep.the-variants as sweep
 use Rattle.ports.specs.Ports.{newPorts, portAt}
 use Rattle.ports.specs.Sweep.{swept}
 use Rattle.ports.specs.Bitmap.{bitmapOf}
-use Rattle.ports.specs.Claims.{Among}
+use Rattle.ports.specs.Ports.{Among}
 use Rattle.buffer.specs.declared.Lane.{Lane}
 use Rattle.translator.specs.declared.Translator.{Translator}
 use Rattle.translator.specs.declared.CompleteAnswer.{CompleteAnswer}
@@ -30,7 +30,7 @@ use Rattle.translator.proofs.Kept as translating
 use Rattle.request.specs.declared.Request.{Request}
 use Rattle.request.specs.declared.Request.the-variants.{Wrong, SetConfiguration, GetConfiguration, GetHubDescriptor, GetHubStatus, GetPortStatus, ClearHubFeature, ClearPortFeature, SetPortFeature, ClearTTBuffer, ResetTT}
 use Rattle.request.specs.Request.{requestOf}
-use Rattle.request.specs.Claims.{InRange}
+use Rattle.request.specs.Ranges.{InRange}
 use Rattle.request.proofs.Claimed.{request-claims}
 use Rattle.numbers.specs.Named.{laneFrom, isEvent, eventFrom, portNamed, resultFrom}
 use Rattle.numbers.specs.Split.{splitFrom, keyFrom}
@@ -39,7 +39,8 @@ use Rattle.hub.specs.Hub.{newFits, hubOf, withPorts, withTranslator, wit
 use Rattle.hub.specs.Call.{Call, Control, Poll, Start, Complete, Launch, Deliver, Event, Tick, BusReset, refuse, gives}
 use Rattle.hub.specs.Requests.{keyed, byRequest, servedAlways, requested}
 use Rattle.hub.specs.Rules.{polled, completedBy, launchedBy}
-use Rattle.hub.specs.Step.{within, fitting, served, step}
+use Rattle.hub.specs.Checks.{within, fitting}
+use Rattle.hub.specs.Step.{served, step}
 use Rattle.hub.specs.Valid.{ValidHub}
 use Rattle.hub.proofs.Order.{by-step}
 use Rattle.hub.proofs.Numbers.{left, right, fits, refit}

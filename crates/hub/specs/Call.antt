@@ -1,11 +1,8 @@
 -- The calls on a hub and their answers. A reader must believe: these are all the calls, with any numbers, any bytes and any length of
 -- the reply space, and an answer is document 01's number with all else that a call gives back.
 use Prim.Native.Nat.{ℕ}
-use mathlib.Core.Option.{Option, none, some}
 use mathlib.Core.List.{List, []}
-use Rattle.payload.specs.Payload.{content}
 use Rattle.hub.specs.declared.Hub.{Hub}
-use Rattle.hub.specs.declared.Stepped.{Stepped}
 
 pub data Call : Type 0 where
   -- lane, setup bytes, length of the reply space
@@ -25,18 +22,6 @@ pub data Call : Type 0 where
   Tick : Call
   BusReset : Call
 
--- the lane that it comes from, where a call carries one
-abbrev pub laneOf : Call → Option ℕ
-laneOf (Control z s room) = some z
-laneOf (Poll z room) = some z
-laneOf (Start z p t f g a e l) = some z
-laneOf (Complete z a e d room) = some z
-laneOf (Launch room) = none
-laneOf (Deliver r l) = none
-laneOf (Event e n) = none
-laneOf Tick = none
-laneOf BusReset = none
-
 -- numbers that don't apply are 0
 pub record Answer : Type 0 where
   pub number : ℕ
@@ -54,26 +39,6 @@ pub record Answer : Type 0 where
 pub record Outcome : Type 0 where
   pub next : Hub
   pub answer : Answer
-
--- what a method of the code gives back
-abbrev pub outcomeOf : Stepped → Outcome
-outcomeOf r =
-    record {
-      next = r .hub;
-      answer =
-          record {
-            number = r .reply .number;
-            pid = r .reply .pid;
-            transfer = r .reply .transfer;
-            lane = r .reply .lane;
-            address = r .reply .address;
-            endpoint = r .reply .endpoint;
-            direction = r .reply .direction;
-            lowspeed = r .reply .lowspeed;
-            toggle = r .reply .toggle;
-            bytes = content (r .payload);
-          };
-    }
 
 -- a number alone
 abbrev pub plainAnswer : ℕ → Answer

@@ -6,6 +6,7 @@ use mathlib.Core.Bool.{Bool, true, false, _&&_}
 use mathlib.Core.List.{List, [], _∷_, _++_}
 use lib.Dec.{eqb}
 use lib.ListN.{replicate}
+use Rattle.payload.specs.Bytes.{sameBytes}
 use Rattle.hub.specs.declared.Hub.{Hub}
 use Rattle.hub.specs.Hub.{newHub}
 use Rattle.hub.specs.Call.{Call, Control, Poll, Start, Complete, Launch, Deliver, Event, Tick, BusReset, Answer, plainAnswer, pidAnswer}
@@ -423,12 +424,6 @@ table =
     ∷ twoKeys ∷ limitReached ∷ oldBuffers ∷ resetOther ∷ resetOwn ∷ clearOwn ∷ bothLanes ∷ onePortSet ∷ noSuchLane ∷ []
 
 -- ---- the comparison
-
-abbrev pub sameBytes : List ℕ → List ℕ → Bool
-sameBytes [] [] = true
-sameBytes [] (n ∷ ns) = false
-sameBytes (m ∷ ms) [] = false
-sameBytes (m ∷ ms) (n ∷ ns) = eqb m n && sameBytes ms ns
 
 -- field by field
 abbrev pub sameAnswer : Answer → Answer → Bool

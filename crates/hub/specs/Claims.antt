@@ -1,30 +1,30 @@
 -- What is shown of every call. A reader must believe the rules and these statements; the proofs are in proofs/.
-use Prim.Native.Nat.{ℕ, _≤_, _<_}
+use Prim.Native.Nat.{ℕ, _≤_}
 use mathlib.Core.Path.{_≡_}
-use mathlib.Core.Logic.{_↔_, _⊎_}
+use mathlib.Core.Logic.{_↔_}
 use mathlib.Core.Bool.{true, false}
-use mathlib.Core.Option.{some}
+use mathlib.Core.Option.{Option, none, some}
 use mathlib.Core.List.{[]}
-use lib.ListN.{length, getD}
-use Rattle.port.specs.Claims.{bitsOf}
+use lib.ListN.{length}
 use Rattle.translator.specs.Answers.{isRefusal}
 use Rattle.hub.specs.declared.Hub.{Hub}
 use Rattle.hub.specs.Hub.{newFits, hubOf}
-use Rattle.hub.specs.Call.{Call, laneOf, refuse}
+use Rattle.hub.specs.Call.{Call, Control, Poll, Start, Complete, Launch, Deliver, Event, Tick, BusReset, refuse}
 use Rattle.hub.specs.Step.{step}
 use Rattle.hub.specs.Valid.{ValidHub}
+use Rattle.hub.specs.New.{NewOutside}
 
--- N ports, 1 to 7; B translator buffers, 2 to 4
-abbrev pub CountsOutside : ℕ → ℕ → Type 0
-CountsOutside n b = (n < 1) ⊎ (7 < n) ⊎ (b < 2) ⊎ (4 < b)
-
--- a removable byte whose bit 0 and bits above N are zero
-abbrev pub RemovableOutside : ℕ → ℕ → Type 0
-RemovableOutside n r = (255 < r) ⊎ ((i : ℕ) × ((i ≡ 0) ⊎ (n < i)) × (getD (bitsOf 8 r) i false ≡ true))
-
--- A new hub is made from N, B, power-good time, hub current (both 0 to 255) and a removable byte ..: one of these numbers is bad
-abbrev pub NewOutside : ℕ → ℕ → ℕ → ℕ → ℕ → Type 0
-NewOutside n b g c r = CountsOutside n b ⊎ (255 < g) ⊎ (255 < c) ⊎ RemovableOutside n r
+-- the lane that it comes from, where a call carries one
+abbrev pub laneOf : Call → Option ℕ
+laneOf (Control z s room) = some z
+laneOf (Poll z room) = some z
+laneOf (Start z p t f g a e l) = some z
+laneOf (Complete z a e d room) = some z
+laneOf (Launch room) = none
+laneOf (Deliver r l) = none
+laneOf (Event e n) = none
+laneOf Tick = none
+laneOf BusReset = none
 
 pub record HubClaims : Type 0 where
   -- no hub is made exactly if a number is bad

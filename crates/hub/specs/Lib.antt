@@ -1,8 +1,11 @@
 pub mod Hub
 pub mod Call
+pub mod Method
 pub mod Requests
 pub mod Rules
+pub mod Checks
 pub mod Step
 pub mod Valid
+pub mod New
 pub mod Claims
 pub mod Cases

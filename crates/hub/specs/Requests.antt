@@ -6,7 +6,8 @@ use lib.ListN.{take}
 use Rattle.port.specs.declared.PortNumber.{PortNumber}
 use Rattle.port.specs.declared.SettableFeature.{SettableFeature}
 use Rattle.port.specs.declared.ClearableFeature.{ClearableFeature}
-use Rattle.port.specs.Status.{bit, statusBytes}
+use Rattle.bools.specs.Bit.{bit}
+use Rattle.port.specs.Status.{statusBytes}
 use Rattle.port.specs.Features.{featureSet, featureCleared}
 use Rattle.ports.specs.Ports.{portAt}
 use Rattle.buffer.specs.declared.Lane.{Lane}

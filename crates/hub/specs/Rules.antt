@@ -9,7 +9,7 @@ use Rattle.payload.specs.Payload.{content}
 use Rattle.port.specs.declared.PortNumber.{PortNumber}
 use Rattle.port.specs.declared.LineEvent.{LineEvent}
 use Rattle.port.specs.Reaction.{Answered}
-use Rattle.port.specs.Status.{bit}
+use Rattle.bools.specs.Bit.{bit}
 use Rattle.port.specs.Events.{lineEvent}
 use Rattle.ports.specs.Ports.{portAt}
 use Rattle.ports.specs.Bitmap.{bitmapOf}

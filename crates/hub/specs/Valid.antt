@@ -7,7 +7,7 @@ use Rattle.port.specs.declared.Port.{Port}
 use Rattle.port.specs.declared.PortState.{PortState}
 use Rattle.port.specs.declared.PortState.the-variants.{NotConfigured, PoweredOff, Disconnected, Disabled, Resetting, Enabled, Suspended, Resuming}
 use Rattle.port.specs.Reaction.{newPort}
-use Rattle.port.specs.Claims.{TimerBelowEnd}
+use Rattle.port.specs.Words.{TimerBelowEnd}
 use Rattle.translator.specs.Valid.{ValidTranslator}
 use Rattle.hub.specs.declared.Hub.{Hub}
 use Rattle.hub.specs.Hub.{newFits}

@@ -4,16 +4,18 @@ ghost use mathlib.Core.Path.{_≡_};
 ghost use Prim.Native.Nat.{_+_, _≤_, _^_, min};
 ghost use Rattle.payload.specs.Payload.{content};
 ghost use lib.ListN.{take};
-ghost use Rattle.port.specs.Reaction.{numberOf, answered};
+ghost use Rattle.port.specs.Method.{numberOf, answered};
 ghost use Rattle.port.specs.Status.{statusBytes};
 ghost use Rattle.ports.specs.Ports.{portAt};
 ghost use Rattle.ports.specs.Sweep.{swept};
 ghost use Rattle.hub.specs.Hub.{newFits, hubOf, newHub, withPorts, withTranslator, withPortAt, configurationSweep, configuredAs};
-ghost use Rattle.hub.specs.Call.{outcomeOf, plain, done, stall, gives, givesNothing, pidAnswer};
+ghost use Rattle.hub.specs.Method.{outcomeOf};
+ghost use Rattle.hub.specs.Call.{plain, done, stall, gives, givesNothing, pidAnswer};
 ghost use Rattle.hub.specs.Call.Call.{Control, Poll, Start, Complete, Launch, Deliver, Event, Tick, BusReset};
 ghost use Rattle.hub.specs.Requests.{descriptor, keyed, setFeature, clearFeature, byRequest, servedAlways, requested};
 ghost use Rattle.hub.specs.Rules.{completedAs, launchAnswer, launchedAs, steppedAt};
-ghost use Rattle.hub.specs.Step.{firstRefusal, step};
+ghost use Rattle.hub.specs.Checks.{firstRefusal};
+ghost use Rattle.hub.specs.Step.{step};
 ghost use Rattle.hub.specs.Claims.{HubClaims};
 ghost use Rattle.hub.specs.Cases.{BenchCases};
 use buffer::BufferCount;
@@ -161,12 +163,12 @@ fn give_launch(hub: Hub, split: StartSplit, payload: Payload) -> Stepped
 }
 
 // The order of checks: 6, 7, 5, 8, then the rest.
-pub fn first_refusal(within: bool, roomy: bool, heard: bool, fitting: bool) -> u8
-    ensures { λ r. ⌜ r ≡ firstRefusal within roomy heard fitting ⌝ }
+pub fn first_refusal(within: bool, space: bool, configured: bool, fitting: bool) -> u8
+    ensures { λ r. ⌜ r ≡ firstRefusal within space configured fitting ⌝ }
 {
     if within {
-        if roomy {
-            if heard {
+        if space {
+            if configured {
                 if fitting { 0 } else { 8 }
             } else {
                 5
@@ -201,14 +203,14 @@ fn above_port(n: u32) -> u32
 fn can_be_made(ports: u32, buffers: u32, powergood: u32, current: u32, removable: u32) -> bool
     ensures { λ r. ⌜ r ≡ newFits ports buffers powergood current removable ⌝ }
 {
-    logic::both(
-        logic::both(
-            logic::both(1 <= ports, ports <= 7),
-            logic::both(2 <= buffers, buffers <= 4),
+    bools::both(
+        bools::both(
+            bools::both(1 <= ports, ports <= 7),
+            bools::both(2 <= buffers, buffers <= 4),
         ),
-        logic::both(
-            logic::both(powergood < 256, current < 256),
-            logic::both(removable % 2 == 0, removable < above_port(ports)),
+        bools::both(
+            bools::both(powergood < 256, current < 256),
+            bools::both(removable % 2 == 0, removable < above_port(ports)),
         ),
     )
 }
@@ -442,7 +444,7 @@ impl Hub {
     fn serve(self, lane: Lane, request: Request) -> Stepped
         ensures { λ r. ⌜ outcomeOf r ≡ requested self lane request ⌝ }
     {
-        if logic::either(self.configured, is_served_always(request)) {
+        if bools::either(self.configured, is_served_always(request)) {
             return self.by_request(lane, request);
         }
         stall(self)
@@ -456,7 +458,7 @@ impl Hub {
         ensures { λ r. ⌜ outcomeOf r ≡ step self (Control lane (now (setup .entry)) room) ⌝ }
     {
         let refusal = first_refusal(
-            logic::both(setup.len() == 8, numbers::is_lane(lane)),
+            bools::both(setup.len() == 8, numbers::is_lane(lane)),
             64 <= room,
             true,
             true,
@@ -514,7 +516,7 @@ impl Hub {
         let translator = self.translator;
         let split = numbers::split_of(lane, pid, transfer, lowspeed, toggle, address, endpoint);
         let named = numbers::split_named(lane, pid, transfer, lowspeed, toggle, address, endpoint);
-        let within = logic::both(named, split.fits(payload.len()));
+        let within = bools::both(named, split.fits(payload.len()));
         let refusal = first_refusal(within, true, self.configured, true);
         if refusal != 0 {
             return answer(self, refusal);
@@ -603,7 +605,7 @@ impl Hub {
     {
         let translator = self.translator;
         let kind = numbers::result_of(result);
-        let within = logic::both(numbers::is_result(result), kind.carries(payload.len()));
+        let within = bools::both(numbers::is_result(result), kind.carries(payload.len()));
         let o = translator.deliver(kind, payload);
         let said = o.answer;
         let next = o.next;
@@ -618,7 +620,7 @@ impl Hub {
     pub fn line_event(self, event: u32, port: u32) -> Stepped
         ensures { λ r. ⌜ outcomeOf r ≡ step self (Event event port) ⌝ }
     {
-        let within = logic::both(
+        let within = bools::both(
             numbers::is_event(event),
             numbers::port_named(self.port_count(), port),
         );

@@ -8,13 +8,14 @@ use Rattle.request.specs.Request.{checked, requestOf}
 use Rattle.hub.specs.Hub.{newFits, newHub, configuredAs}
 use Rattle.hub.specs.Requests.{requested}
 use Rattle.hub.specs.Rules.{polled}
-use Rattle.hub.specs.Step.{within, roomy, heard, fitting, served, step}
+use Rattle.hub.specs.Checks.{within, hasSpace, notSilent, fitting}
+use Rattle.hub.specs.Step.{served, step}
 use Rattle.runs.specs.Machine.{afterFrom}
 use Rattle.isolation.specs.Naming.{naming, struck}
 use Rattle.isolation.specs.Cases.{IsolationCases}
 
 pub isolation-cases : IsolationCases
-unfolding newFits newHub afterFrom struck naming portAt withPort front swept bitmapOf polled kindOf checked requestOf configuredAs requested within roomy heard fitting served step
+unfolding newFits newHub afterFrom struck naming portAt withPort front swept bitmapOf polled kindOf checked requestOf configuredAs requested within hasSpace notSilent fitting served step
 isolation-cases =
     record {
       named = refl;

@@ -14,12 +14,14 @@ use Rattle.port.specs.declared.PortState.the-variants.{NotConfigured, PoweredOf
 use Rattle.ports.specs.Ports.{portAt, withPort}
 use Rattle.ports.specs.Bitmap.{bitmapOf}
 use Rattle.ports.specs.Sweep.{front, swept}
-use Rattle.buffer.specs.Key.{sameKey}
+use Rattle.buffer.specs.Same.{sameKey}
 use Rattle.buffer.specs.Lengths.{numbersFit, startFits}
 use Rattle.translator.specs.declared.Translator.{Translator}
-use Rattle.translator.specs.Search.{find, chosen, pass}
+use Rattle.translator.specs.Order.{pass}
+use Rattle.translator.specs.Search.{find, chosen}
 use Rattle.translator.specs.Limit.{permitted}
-use Rattle.translator.specs.Order.{tally, waiting, ranked}
+use Rattle.translator.specs.Translator.{tally}
+use Rattle.translator.specs.Order.{waiting, ranked}
 use Rattle.translator.specs.StartSplit.{stored, startSplit}
 use Rattle.numbers.specs.Split.{splitNamed, splitFrom}
 use Rattle.request.specs.Table.{kindOf}
@@ -29,7 +31,8 @@ use Rattle.hub.specs.Call.{Call, Control, Poll, Start, Complete, Launch, Delive
 use Rattle.hub.specs.Cases.{setConfiguration1, getPortStatus, setPower, setReset, attachFull, detach, overCurrentOn, startIn}
 use Rattle.hub.specs.Requests.{requested}
 use Rattle.hub.specs.Rules.{polled}
-use Rattle.hub.specs.Step.{within, roomy, heard, fitting, served, step}
+use Rattle.hub.specs.Checks.{within, hasSpace, notSilent, fitting}
+use Rattle.hub.specs.Step.{served, step}
 use Rattle.runs.specs.Machine.{afterFrom}
 use Rattle.runs.specs.Altered.{alteredPorts}
 use Rattle.runs.specs.Demand2.{reachedBy}
@@ -55,7 +58,7 @@ code (Resuming s t) = 7
 
 -- port 2 is powered; over-current on port 1 powers it off
 all-off : ¬ (AtMatchingPoints (alteredPorts powersAllOff) SameBut)
-unfolding bench newFits afterFrom struck naming portAt withPort front swept kindOf checked requestOf configuredAs within roomy heard fitting
+unfolding bench newFits afterFrom struck naming portAt withPort front swept kindOf checked requestOf configuredAs within hasSpace notSilent fitting
 all-off claim =
     let calls : List Call → List Call = λ l. setConfiguration1 ∷ setPower 2 ∷ l in
     let left = claim port1 bench bench (calls (overCurrentOn 1 ∷ [])) (calls []) (record { new-hubs = refl; left = refl }) in
@@ -64,7 +67,7 @@ all-off claim =
 
 -- a start-split is pending; a detach at port 1 drops it
 translator-emptied : ¬ (AtMatchingPoints (alteredPorts emptiesTranslator) SameBut)
-unfolding bench newFits afterFrom struck naming portAt withPort front swept padded payloadOf sameKey numbersFit startFits find chosen permitted pass tally ranked stored startSplit splitNamed splitFrom kindOf checked requestOf configuredAs within roomy heard fitting served
+unfolding bench newFits afterFrom struck naming portAt withPort front swept padded payloadOf sameKey numbersFit startFits find chosen permitted pass tally ranked stored startSplit splitNamed splitFrom kindOf checked requestOf configuredAs within hasSpace notSilent fitting served
 translator-emptied claim =
     let calls : List Call → List Call = λ l. setConfiguration1 ∷ setPower 1 ∷ attachFull 1 ∷ startIn 5 1 ∷ l in
     let left = claim port1 bench bench (calls (detach 1 ∷ [])) (calls []) (record { new-hubs = refl; left = refl }) in
@@ -73,14 +76,14 @@ translator-emptied claim =
 
 -- over-current on port 1, and the hub is unconfigured
 hub-stopped : ¬ (AtMatchingPoints (alteredPorts stopsHub) SameBut)
-unfolding bench newFits afterFrom struck naming portAt withPort front swept kindOf checked requestOf configuredAs within roomy heard fitting
+unfolding bench newFits afterFrom struck naming portAt withPort front swept kindOf checked requestOf configuredAs within hasSpace notSilent fitting
 hub-stopped claim =
     let left = claim port1 bench bench (setConfiguration1 ∷ setPower 1 ∷ overCurrentOn 1 ∷ []) (setConfiguration1 ∷ []) (record { new-hubs = refl; left = refl }) in
     true≢false (sym (left .configured))
 
 -- port 2 has had one tick of its reset; a reset of port 1 takes it back
 timers-back : ¬ (AtMatchingPoints (alteredPorts takesTimersBack) SameBut)
-unfolding bench newFits afterFrom struck naming portAt withPort front swept kindOf checked requestOf configuredAs tickedHub within roomy heard fitting served
+unfolding bench newFits afterFrom struck naming portAt withPort front swept kindOf checked requestOf configuredAs tickedHub within hasSpace notSilent fitting served
 timers-back claim =
     let calls : List Call → List Call = λ l. setConfiguration1 ∷ setPower 1 ∷ attachFull 1 ∷ setPower 2 ∷ attachFull 2 ∷ setReset 2 ∷ Tick ∷ l in
     let left = claim port1 bench bench (calls (setReset 1 ∷ [])) (calls []) (record { new-hubs = refl; left = refl }) in
@@ -89,7 +92,7 @@ timers-back claim =
 
 -- port 1 is powered, and port 2's status tells it
 first-read : ¬ (SameAnswersOf readsFirst)
-unfolding bench newFits afterFrom struck naming portAt withPort front swept kindOf checked requestOf configuredAs within roomy heard fitting
+unfolding bench newFits afterFrom struck naming portAt withPort front swept kindOf checked requestOf configuredAs within hasSpace notSilent fitting
 first-read claim =
     let left = claim port1 bench bench (setConfiguration1 ∷ setPower 1 ∷ []) (setConfiguration1 ∷ []) (record { new-hubs = refl; left = refl }) in
     let told = left .calls (getPortStatus 2) (getPortStatus 2) refl refl (λ z room e. no-poll e) in
@@ -127,7 +130,7 @@ bit-kept p a b none-or-byte u v i d = absurd (omega (arith, u))
 
 -- a device is at port 1, and the poll tells of all
 all-polled : ¬ (SameAnswersOf pollsAll)
-unfolding bench newFits afterFrom struck naming portAt withPort front swept bitmapOf kindOf checked requestOf configuredAs within roomy heard fitting
+unfolding bench newFits afterFrom struck naming portAt withPort front swept bitmapOf kindOf checked requestOf configuredAs within hasSpace notSilent fitting
 all-polled claim =
     let left = claim port1 bench bench (setConfiguration1 ∷ setPower 1 ∷ attachFull 1 ∷ []) (setConfiguration1 ∷ []) (record { new-hubs = refl; left = refl }) in
     let told = byte-alone port1 _ _ (left .polls (Poll 0 64) (Poll 0 64) 0 64 refl refl) refl refl in
@@ -136,7 +139,7 @@ all-polled claim =
 
 -- devices are at ports 1 and 2, and the poll tells of port 1 alone
 others-hidden : ¬ (SameAnswersOf hidesOthers)
-unfolding bench newFits afterFrom struck naming portAt withPort front swept bitmapOf polled kindOf checked requestOf configuredAs within roomy heard fitting
+unfolding bench newFits afterFrom struck naming portAt withPort front swept bitmapOf polled kindOf checked requestOf configuredAs within hasSpace notSilent fitting
 others-hidden claim =
     let calls : List Call → List Call = λ l. setConfiguration1 ∷ setPower 2 ∷ attachFull 2 ∷ l in
     let left = claim port1 bench bench (calls (setPower 1 ∷ attachFull 1 ∷ [])) (calls []) (record { new-hubs = refl; left = refl }) in
@@ -144,7 +147,7 @@ others-hidden claim =
 
 -- a device is at port 1, and the poll doesn't tell of it
 first-hidden : ¬ (SameAnswersOf hidesFirst)
-unfolding bench newFits afterFrom struck naming portAt withPort front swept bitmapOf polled kindOf checked requestOf configuredAs requested within roomy heard fitting served step
+unfolding bench newFits afterFrom struck naming portAt withPort front swept bitmapOf polled kindOf checked requestOf configuredAs requested within hasSpace notSilent fitting served step
 first-hidden claim =
     let quiet = none-set (reachedBy bench (setConfiguration1 ∷ [])) (reached bench (setConfiguration1 ∷ [])) .0 refl in
     let left = claim port1 bench bench (setConfiguration1 ∷ setPower 1 ∷ attachFull 1 ∷ []) (setConfiguration1 ∷ []) (record { new-hubs = refl; left = refl }) in
@@ -153,7 +156,7 @@ first-hidden claim =
 
 -- port 1 is powered, and the poll tells of it
 powered-told : ¬ (SameAnswersOf tellsPowered)
-unfolding bench newFits afterFrom struck naming portAt withPort front swept bitmapOf polled kindOf checked requestOf configuredAs within roomy heard fitting
+unfolding bench newFits afterFrom struck naming portAt withPort front swept bitmapOf polled kindOf checked requestOf configuredAs within hasSpace notSilent fitting
 powered-told claim =
     let left = claim port1 bench bench (setConfiguration1 ∷ setPower 1 ∷ []) (setConfiguration1 ∷ []) (record { new-hubs = refl; left = refl }) in
     true≢false (sym (left .one-or-none (Poll 0 64) (Poll 0 64) 0 64 refl refl (inr refl) .0 (refl, refl) .0))

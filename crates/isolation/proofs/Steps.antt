@@ -39,9 +39,10 @@ use Rattle.hub.specs.Hub.{withPorts, withTranslator, configurationSweep, config
 use Rattle.hub.specs.Call.{Call, Control, Poll, Start, Complete, Launch, Deliver, Event as Line, Tick, BusReset, Answer, Outcome, pidAnswer, plainAnswer, done, refuse, gives}
 use Rattle.hub.specs.Requests.{keyed, byRequest, servedAlways, requested}
 use Rattle.hub.specs.Rules.{polled, completedBy, launchedBy, eventAt}
-use Rattle.hub.specs.Step.{within, roomy, heard, fitting, served, firstRefusal, step}
+use Rattle.hub.specs.Checks.{within, hasSpace, notSilent, fitting, firstRefusal}
+use Rattle.hub.specs.Step.{served, step}
 use Rattle.hub.proofs.Order.{by-step}
-use Rattle.hub.proofs.Ways.{polled-stays}
+use Rattle.hub.proofs.Calls.{polled-stays}
 use Rattle.isolation.specs.Naming.{requestNaming, naming}
 use Rattle.isolation.specs.Isolation.{bitmapBit, SamePoll, same}
 use Rattle.isolation.proofs.Setting.{without, erased, others-same, swept-same, set-named, set-same}
@@ -137,10 +138,10 @@ module _ (p : PortNumber) where
     )
 
     -- the checks, then the rule
-    by-two : (c : Call) → within g c ≡ within h c → heard g c ≡ heard h c → (within h c ≡ true → fitting g c ≡ fitting h c)
+    by-two : (c : Call) → within g c ≡ within h c → notSilent g c ≡ notSilent h c → (within h c ≡ true → fitting g c ≡ fitting h c)
         → (within h c ≡ true → Same c (served g c) (served h c)) → Same c (step g c) (step h c)
     unfolding step
-    by-two c a b d v = rw (a, b) (go (within h c) refl (roomy c) (heard h c))
+    by-two c a b d v = rw (a, b) (go (within h c) refl (hasSpace c) (notSilent h c))
       where
         refused-same : (n : ℕ) → Same c (refuse n g) (refuse n h)
         refused-same n = (as-it-was (plainAnswer n) .0, λ d. refl)
@@ -164,7 +165,7 @@ module _ (p : PortNumber) where
     answered c b = (b .0, λ d. b .1)
 
     other-same : (c : Call) → naming (h .identity .ports) p c ≡ false → Same c (step g c) (step h c)
-    unfolding within heard fitting served naming resetHub
+    unfolding within notSilent fitting served naming resetHub
     other-same (Control z s room) n =
         by-two (Control z s room) refl refl (λ w. refl)
         (λ w. answered (Control z s room) (requested-same (laneFrom z) (requestOf (h .identity .ports) s) (elsewhere w)))
@@ -207,7 +208,7 @@ module _ (p : PortNumber) where
         → P (plainAnswer 6) (plainAnswer 6) → P (plainAnswer 7) (plainAnswer 7) → P (plainAnswer 5) (plainAnswer 5)
         → P (given (bitmapOf (h .identity .ports) qs)) (given (bitmapOf (h .identity .ports) (h .ports)))
         → P (step g (Poll z room) .answer) (step h (Poll z room) .answer)
-    unfolding step within roomy heard fitting served
+    unfolding step within hasSpace notSilent fitting served
     by-polls z room P outside short silent answered = go (isLane z) (leb 64 room) (h .configured)
       where
         go : (w r s : Bool)
@@ -254,10 +255,10 @@ module _ (p : PortNumber) where
     pub poll-one : (z room : ℕ) → (step h (Poll z room) .answer .number ≡ 1) ⊎ (step h (Poll z room) .answer .number ≡ 3)
         → ((step g (Poll z room) .answer .number ≡ 1) × (step h (Poll z room) .answer .number ≡ 3))
         ↔ ((bitmapBit g p ≡ true) × (bitmapOf (h .identity .ports) (h .ports) ≡ 0))
-    poll-one z room heard =
+    poll-one z room notSilent =
         subst
         (λ (k : Hub). ((step k (Poll z room) .answer .number ≡ 1) × (step h (Poll z room) .answer .number ≡ 3)) ↔ ((bitmapBit k p ≡ true) × (bitmapOf (h .identity .ports) (h .ports) ≡ 0)))
-        rest (one-or-none h (g .ports) ports-same z room heard)
+        rest (one-or-none h (g .ports) ports-same z room notSilent)
 
   -- ---- a call that names port p
 

@@ -9,7 +9,7 @@ use mathlib.Core.Logic.{_↔_, _⊎_}
 use lib.ListN.{getD}
 use Rattle.port.specs.declared.PortNumber.{PortNumber}
 use Rattle.port.specs.Status.{statusBytes, hasChange}
-use Rattle.port.specs.Claims.{bitsOf}
+use Rattle.port.specs.Words.{bitsOf}
 use Rattle.ports.specs.Ports.{portAt}
 use Rattle.ports.specs.Bitmap.{bitmapOf}
 use Rattle.hub.specs.declared.Hub.{Hub}

@@ -20,7 +20,7 @@ use Rattle.buffer.specs.declared.StartSplit.{StartSplit}
 use Rattle.buffer.specs.declared.Key.{Key}
 use Rattle.port.specs.declared.LineEvent.{LineEvent}
 use Rattle.port.specs.declared.LineEvent.the-variants.{AttachLow, AttachFull, Detach, Chirp, Wake, PortError, OverCurrentOn, OverCurrentOff}
-use Rattle.port.specs.Status.{bit}
+use Rattle.bools.specs.Bit.{bit}
 use Rattle.translator.specs.Answers.{laneNumber, pidNumber}
 use Rattle.numbers.specs.Written.{typeNumber, directionNumber, resultWritten, eventNumber}
 use Rattle.numbers.specs.Named.{isPid, pidFrom, isType, typeFrom, isResult, resultFrom, isDirection, directionFrom, isLane, laneFrom, isEvent, eventFrom, isFlag, flagFrom, portNamed}
@@ -116,8 +116,8 @@ results = record { named = named; value-back = back; number-back = number-back }
     back Data0 = refl
     back Data1 = refl
 
-    shakes : (n : ℕ) → (eqb n 2 || (eqb n 10 || eqb n 14)) ≡ true → resultWritten (resultFrom n) ≡ n
-    shakes n h =
+    handshake : (n : ℕ) → (eqb n 2 || (eqb n 10 || eqb n 14)) ≡ true → resultWritten (resultFrom n) ≡ n
+    handshake n h =
         by-either (eqb n 2) (eqb n 10 || eqb n 14) h (back-at resultFrom resultWritten 2 n refl)
         (λ h. by-either (eqb n 10) (eqb n 14) h (back-at resultFrom resultWritten 10 n refl) (back-at resultFrom resultWritten 14 n refl))
 
@@ -127,7 +127,7 @@ results = record { named = named; value-back = back; number-back = number-back }
     number-back : (n : ℕ) → isResult n ≡ true → resultWritten (resultFrom n) ≡ n
     number-back n h =
         by-either (eqb n 0) ((eqb n 2 || (eqb n 10 || eqb n 14)) || (eqb n 3 || eqb n 11)) h (back-at resultFrom resultWritten 0 n refl)
-        (λ h. by-either (eqb n 2 || (eqb n 10 || eqb n 14)) (eqb n 3 || eqb n 11) h (shakes n) (data-pids n))
+        (λ h. by-either (eqb n 2 || (eqb n 10 || eqb n 14)) (eqb n 3 || eqb n 11) h (handshake n) (data-pids n))
 
 events : Naming LineEvent isEvent eventFrom eventNumber
 events = record { named = named; value-back = back; number-back = number-back }

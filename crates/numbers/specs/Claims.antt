@@ -1,5 +1,5 @@
--- What holds of the numbers.
--- Believe: nothing more; numbers and values name each other one to one.
+-- What holds of the numbers of the interface (Written.antt).
+-- Believe: numbers and values name each other one to one.
 use Prim.Native.Nat.{ℕ, _<_, _≤_}
 use mathlib.Core.Path.{_≡_}
 use mathlib.Core.Bool.{Bool, true}
@@ -12,7 +12,7 @@ use Rattle.buffer.specs.declared.DeviceResult.{DeviceResult}
 use Rattle.buffer.specs.declared.StartSplit.{StartSplit}
 use Rattle.buffer.specs.declared.Key.{Key}
 use Rattle.port.specs.declared.LineEvent.{LineEvent}
-use Rattle.port.specs.Status.{bit}
+use Rattle.bools.specs.Bit.{bit}
 use Rattle.translator.specs.Answers.{laneNumber, pidNumber}
 use Rattle.numbers.specs.Written.{typeNumber, directionNumber, resultWritten, eventNumber}
 use Rattle.numbers.specs.Named.{isPid, pidFrom, isType, typeFrom, isResult, resultFrom, isDirection, directionFrom, isLane, laneFrom, isEvent, eventFrom, isFlag, flagFrom, portNamed}

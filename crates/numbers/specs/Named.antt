@@ -1,6 +1,6 @@
--- Whether a number of any size names something, and what.
--- Believe: an event, PID, type, direction or result number that isn't named, or a flag or toggle above 1, is 6. So what a number that
--- names nothing is read as (the kind's first value) has no effect.
+-- Internal, pinned by `NumbersClaims` (Claims.antt): whether a number of any size names something, and what.
+-- An event, PID, type, direction or result number that isn't named, or a flag or toggle above 1, is 6. So what a number that names nothing is
+-- read as (the kind's first value) has no effect.
 use Prim.Native.Nat.{ℕ}
 use mathlib.Core.Bool.{Bool, cond, _&&_, _||_}
 use lib.Dec.{eqb, leb}

@@ -1,5 +1,5 @@
--- Start-splits and keys from numbers of any size.
--- Believe: device address 0 to 127; endpoint 0 to 15; a number outside the rules is 6, so what it is read as has no effect.
+-- Internal, pinned by `NumbersClaims` (Claims.antt): start-splits and keys from numbers of any size.
+-- Device address 0 to 127; endpoint 0 to 15; a number outside the rules is 6, so what it is read as has no effect.
 use Prim.Native.Nat.{ℕ, _%_}
 use mathlib.Core.Bool.{Bool, _&&_}
 use lib.Dec.{ltb}

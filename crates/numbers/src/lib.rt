@@ -1,6 +1,6 @@
 // The numbers of the C interface: what each names, and the number of each value and answer.
 ghost use mathlib.Core.Path.{_≡_};
-ghost use Rattle.port.specs.Status.{bit};
+ghost use Rattle.bools.specs.Bit.{bit};
 ghost use Rattle.translator.specs.Answers.{
   choiceNumber,
   startNumber,
@@ -53,7 +53,7 @@ use translator::StartAnswer;
 pub fn is_lane(n: u32) -> bool
     ensures { λ r. ⌜ r ≡ isLane n ⌝ }
 {
-    logic::either(n == 0, n == 1)
+    bools::either(n == 0, n == 1)
 }
 
 pub fn lane_of(n: u32) -> Lane
@@ -68,7 +68,7 @@ pub fn lane_of(n: u32) -> Lane
 pub fn is_pid(n: u32) -> bool
     ensures { λ r. ⌜ r ≡ isPid n ⌝ }
 {
-    logic::either(n == 1, logic::either(n == 9, n == 13))
+    bools::either(n == 1, bools::either(n == 9, n == 13))
 }
 
 pub fn pid_of(n: u32) -> Pid
@@ -84,7 +84,7 @@ pub fn pid_of(n: u32) -> Pid
 pub fn is_type(n: u32) -> bool
     ensures { λ r. ⌜ r ≡ isType n ⌝ }
 {
-    logic::either(n == 0, n == 2)
+    bools::either(n == 0, n == 2)
 }
 
 pub fn type_of(n: u32) -> TransferType
@@ -99,9 +99,9 @@ pub fn type_of(n: u32) -> TransferType
 pub fn is_result(n: u32) -> bool
     ensures { λ r. ⌜ r ≡ isResult n ⌝ }
 {
-    let shakes = logic::either(n == 2, logic::either(n == 10, n == 14));
-    let data = logic::either(n == 3, n == 11);
-    logic::either(n == 0, logic::either(shakes, data))
+    let handshake = bools::either(n == 2, bools::either(n == 10, n == 14));
+    let data = bools::either(n == 3, n == 11);
+    bools::either(n == 0, bools::either(handshake, data))
 }
 
 pub fn result_of(n: u32) -> DeviceResult
@@ -120,7 +120,7 @@ pub fn result_of(n: u32) -> DeviceResult
 pub fn is_direction(n: u32) -> bool
     ensures { λ r. ⌜ r ≡ isDirection n ⌝ }
 {
-    logic::either(n == 0, n == 1)
+    bools::either(n == 0, n == 1)
 }
 
 pub fn direction_of(n: u32) -> Direction
@@ -169,7 +169,7 @@ pub fn flag_of(n: u32) -> bool
 pub fn port_named(count: PortCount, n: u32) -> bool
     ensures { λ r. ⌜ r ≡ portNamed (count .0) n ⌝ }
 {
-    logic::both(1 <= n, n <= count.0 as u32)
+    bools::both(1 <= n, n <= count.0 as u32)
 }
 
 // ---- start-splits and keys
@@ -185,10 +185,10 @@ pub fn split_named(
 ) -> bool
     ensures { λ r. ⌜ r ≡ splitNamed lane pid transfer lowspeed toggle address endpoint ⌝ }
 {
-    let kind = logic::both(is_pid(pid), is_type(transfer));
-    let flags = logic::both(is_flag(lowspeed), is_flag(toggle));
-    let device = logic::both(address < 128, endpoint < 16);
-    logic::both(is_lane(lane), logic::both(kind, logic::both(flags, device)))
+    let kind = bools::both(is_pid(pid), is_type(transfer));
+    let flags = bools::both(is_flag(lowspeed), is_flag(toggle));
+    let device = bools::both(address < 128, endpoint < 16);
+    bools::both(is_lane(lane), bools::both(kind, bools::both(flags, device)))
 }
 
 pub fn split_of(
@@ -216,10 +216,10 @@ pub fn split_of(
 pub fn key_named(lane: u32, address: u32, endpoint: u32, direction: u32) -> bool
     ensures { λ r. ⌜ r ≡ keyNamed lane address endpoint direction ⌝ }
 {
-    logic::both(
+    bools::both(
         is_lane(lane),
-        logic::both(
-            logic::both(address < 128, endpoint < 16),
+        bools::both(
+            bools::both(address < 128, endpoint < 16),
             is_direction(direction),
         ),
     )

@@ -7,7 +7,7 @@ use mathlib.Core.List.{List, [], _∷_}
 use native.Mathlib.Omega.{arith}
 use lib.ListN.{length}
 use Rattle.port.specs.Status.{byteOf}
-use Rattle.port.specs.Claims.{bitsOf}
+use Rattle.port.specs.Words.{bitsOf}
 
 even : (n : ℕ) → (0 + 2 * n) % 2 ≡ 0
 even n = omega arith

@@ -16,7 +16,7 @@ use Rattle.port.specs.Events.{eventRule}
 use Rattle.port.specs.Tick as ticking
 use Rattle.port.specs.Features.{setRule, clearEnable, clearSuspend, clearedBit}
 use Rattle.port.specs.Input.{Input, event, tick, setFeature, clearFeature, configure, unconfigure, busReset, after}
-use Rattle.port.specs.Claims.{changeBit}
+use Rattle.port.specs.Words.{changeBit}
 
 pub by-bit : (P : ChangeBit → Type 0) → P Connection → P Enable → P Suspend → P OverCurrent → P Reset → (b : ChangeBit) → P b
 by-bit P c e s o r Connection = c

@@ -14,7 +14,7 @@ use Rattle.port.specs.declared.LineEvent.{LineEvent}
 use Rattle.port.specs.declared.LineEvent.the-variants.{AttachLow, AttachFull, Detach, Chirp, Wake, PortError, OverCurrentOn, OverCurrentOff}
 use Rattle.port.specs.Reaction.{Reaction, refused, done, reacted}
 use Rattle.port.specs.Events.{attach, detach, chirp, wake, portError, overCurrentOn, overCurrentOff, eventRule, lineEvent}
-use Rattle.port.specs.Claims.{NamedIn}
+use Rattle.port.specs.Words.{NamedIn}
 use Rattle.port.proofs.States.{by-state, each}
 
 -- the number of a reaction

@@ -23,7 +23,7 @@ use Rattle.port.specs.Events.{attach, detach, chirp, wake, portError, ov
 use Rattle.port.specs.Tick as ticking
 use Rattle.port.specs.Features.{setPower, setReset, setSuspend, clearEnable, clearSuspend, setRule}
 use Rattle.port.specs.Input.{Input, event, tick, setFeature, clearFeature, configure, unconfigure, busReset, after}
-use Rattle.port.specs.Claims.{TimerBelowEnd}
+use Rattle.port.specs.Words.{TimerBelowEnd}
 use Rattle.port.proofs.States.{by-state, next, next-state}
 
 keep : {A : Type 0} → A → A

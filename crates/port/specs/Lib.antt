@@ -1,9 +1,11 @@
 pub mod Reaction
+pub mod Method
 pub mod Events
 pub mod Tick
 pub mod Features
 pub mod Configuration
 pub mod Status
 pub mod Input
+pub mod Words
 pub mod Claims
 pub mod Mistakes

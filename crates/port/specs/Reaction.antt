@@ -9,9 +9,6 @@ use Rattle.port.specs.declared.ChangeBit.{ChangeBit}
 use Rattle.port.specs.declared.ChangeBit.the-variants.{Connection, Enable, Suspend, OverCurrent, Reset}
 use Rattle.port.specs.declared.Changes.{Changes}
 use Rattle.port.specs.declared.Port.{Port}
-use Rattle.port.specs.declared.StepAnswer.{StepAnswer}
-use Rattle.port.specs.declared.StepAnswer.the-variants.{Done, NotInThisState}
-use Rattle.port.specs.declared.Stepped.{Stepped}
 
 -- what a rule says
 pub data Reaction : Type 0 where
@@ -33,19 +30,10 @@ abbrev pub marked : List ChangeBit → Changes → Changes
 marked [] c = c
 marked (b ∷ bs) c = mark b (marked bs c)
 
--- the number of document 01 for each answer to a step: 0 done, 8 not in this state
-abbrev pub numberOf : StepAnswer → ℕ
-numberOf Done = 0
-numberOf NotInThisState = 8
-
 -- the port as a step leaves it, and the number that is answered
 pub record Answered : Type 0 where
   pub port : Port
   pub number : ℕ
-
--- what a call gives back, with its number
-abbrev pub answered : Stepped → Answered
-answered r = record { port = r .port; number = numberOf (r .answer) }
 
 -- done: answer 0
 abbrev pub doneWith : Port → Answered

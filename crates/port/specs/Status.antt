@@ -4,6 +4,7 @@
 use Prim.Native.Nat.{ℕ, _+_, _*_}
 use mathlib.Core.Bool.{Bool, true, false, _||_}
 use mathlib.Core.List.{List, [], _∷_, map}
+use Rattle.bools.specs.Bit.{bit}
 use Rattle.port.specs.declared.Speed.{Speed}
 use Rattle.port.specs.declared.Speed.the-variants.{Low, Full, High}
 use Rattle.port.specs.declared.PortState.{PortState}
@@ -97,11 +98,6 @@ portHighSpeed (Resetting s t) = isHigh s
 portHighSpeed (Enabled s) = isHigh s
 portHighSpeed (Suspended s) = isHigh s
 portHighSpeed (Resuming s t) = isHigh s
-
--- a bit as a number
-abbrev pub bit : Bool → ℕ
-bit true = 1
-bit false = 0
 
 -- the number whose bits these are, bit 0 first
 abbrev pub byteOf : List Bool → ℕ

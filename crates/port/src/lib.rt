@@ -3,7 +3,8 @@ ghost use mathlib.Core.Path.{_≡_};
 ghost use mathlib.Core.Bool.{false};
 ghost use mathlib.Core.List.{[], _∷_};
 ghost use Prim.Native.Nat.{_≤_};
-ghost use Rattle.port.specs.Reaction.{newPort, answered, doneWith, ruled};
+ghost use Rattle.port.specs.Method.{answered};
+ghost use Rattle.port.specs.Reaction.{newPort, doneWith, ruled};
 ghost use Rattle.port.specs.Events.{
   attach,
   detach,
@@ -38,7 +39,6 @@ ghost use Rattle.port.specs.Status.{
   portPower,
   portLowSpeed,
   portHighSpeed,
-  bit,
   byteOf,
   changeLow,
   statusBytes,
@@ -715,17 +715,15 @@ impl Changes {
     }
 }
 
-fn bit(b: bool) -> u8
-    ensures { λ r. ⌜ (r ≡ bit b) × (r ≤ 1) ⌝ }
-{
-    if b { 1 } else { 0 }
-}
-
 // The byte with these bits, bit 0 first; bits 5 to 7 are zero.
 fn byte_of(b0: bool, b1: bool, b2: bool, b3: bool, b4: bool) -> u8
     ensures { λ r. ⌜ r ≡ byteOf (b0 ∷ b1 ∷ b2 ∷ b3 ∷ b4 ∷ false ∷ false ∷ false ∷ []) ⌝ }
 {
-    bit(b0) + 2 * bit(b1) + 4 * bit(b2) + 8 * bit(b3) + 16 * bit(b4)
+    bools::bit_of(b0)
+        + 2 * bools::bit_of(b1)
+        + 4 * bools::bit_of(b2)
+        + 8 * bools::bit_of(b3)
+        + 16 * bools::bit_of(b4)
 }
 
 // What holds of every port; the function does nothing.

@@ -10,15 +10,11 @@ use Rattle.port.specs.declared.Port.{Port}
 use Rattle.port.specs.declared.PortNumber.{PortNumber}
 use Rattle.port.specs.Reaction.{newPort}
 use Rattle.port.specs.Status.{hasChange}
-use Rattle.port.specs.Claims.{bitsOf}
+use Rattle.port.specs.Words.{bitsOf}
 use Rattle.ports.specs.declared.Sweep.{Sweep}
-use Rattle.ports.specs.Ports.{newPorts, portAt, withPort}
+use Rattle.ports.specs.Ports.{Among, newPorts, portAt, withPort}
 use Rattle.ports.specs.Sweep.{sweptBy, swept}
 use Rattle.ports.specs.Bitmap.{portBit, bitmapOf}
-
--- port m is one of the first n
-abbrev pub Among : ℕ → PortNumber → Type 0
-Among n m = (1 ≤ m .0) × (m .0 ≤ n)
 
 pub record PortsClaims : Type 0 where
   pub new-at : (m : PortNumber) → portAt newPorts m ≡ newPort

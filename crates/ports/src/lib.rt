@@ -3,8 +3,10 @@ ghost use mathlib.Core.Path.{_≡_};
 ghost use mathlib.Core.Bool.{_&&_};
 ghost use Prim.Native.Nat.{_≤_};
 ghost use lib.Dec.{leb};
-ghost use Rattle.port.specs.Reaction.{answered, doneWith};
-ghost use Rattle.port.specs.Status.{bit, hasChange};
+ghost use Rattle.port.specs.Method.{answered};
+ghost use Rattle.port.specs.Reaction.{doneWith};
+ghost use Rattle.bools.specs.Bit.{bit};
+ghost use Rattle.port.specs.Status.{hasChange};
 ghost use Rattle.ports.specs.Ports.{newPorts, portAt, withPort};
 ghost use Rattle.ports.specs.Sweep.{sweptBy, swept};
 ghost use Rattle.ports.specs.Bitmap.{bitmapOf};
@@ -112,7 +114,7 @@ pub fn bitmap(ports: [Port; 7], count: PortCount) -> u8
 fn flag(port: Port, n: PortNumber, count: PortCount) -> u8
     ensures { λ r. ⌜ (r ≡ bit (leb (n .0) (count .0) && hasChange (port .changes))) × (r ≤ 1) ⌝ }
 {
-    if logic::both(n.0 <= count.0 as u32, port.changed()) {
+    if bools::both(n.0 <= count.0 as u32, port.changed()) {
         1
     } else {
         0

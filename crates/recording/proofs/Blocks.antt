@@ -10,17 +10,18 @@ use lib.Dec.{eqb, leb}
 use lib.ListN.{length, getD, take, drop, replicate, length-append, length-drop, length-replicate, take-append-drop}
 use lib.Seq.{take-all, take-add, take-at, drop-at, drop-drop, drop-append-add, getD-take, getD-at, getD-append-add, length-take-le, take-append-seam, drop-append-seam}
 use Rattle.hub.specs.Call.{Call}
-use Rattle.taken.specs.Rows.{blank}
-use Rattle.taken.proofs.Rows.{blank-to, blank-of}
+use Rattle.area_check.specs.Rows.{blank}
+use Rattle.area_check.proofs.Rows.{blank-to, blank-of}
 use Rattle.call_bytes.specs.Words.{half, halfAt}
 use Rattle.call_bytes.specs.Written.{Bytes}
 use Rattle.call_bytes.proofs.Words.{half-of, half-take}
 use Rattle.call_bytes.proofs.Exact.{bytes-drop, bytes-take, half-lt}
 use Rattle.recording.specs.declared.Verdict.{Verdict}
 use Rattle.recording.specs.declared.Verdict.the-variants.{Good, BadLength, BadCheck, BadNumber, BadCount, BadRecord}
-use Rattle.recording.specs.Calls.{callsOf, isSome, listed, writtenAll, AllFit}
-use Rattle.recording.specs.Block.{sumTo, lengthFits, checkFits, numberFits, countOf, countFits, usedOf, recordsFit, verdictFor, verdictOf, isGood, callsAt}
-use Rattle.recording.specs.Written.{padded, unchecked, checkOf, blockOf, Writable, IsBlock, BlockExact}
+use Rattle.recording.specs.Written.{writtenAll, AllFit, sumTo, countOf, usedOf, padded, unchecked, checkOf, blockOf, Writable, IsBlock}
+use Rattle.recording.specs.Calls.{callsOf, isSome, listed}
+use Rattle.recording.specs.Block.{lengthFits, checkFits, numberFits, countFits, recordsFit, verdictFor, verdictOf, isGood, callsAt}
+use Rattle.recording.specs.Claims.{BlockExact}
 use Rattle.recording.proofs.Rows.{back, calls-exact}
 
 -- ---- the five tests, each by itself

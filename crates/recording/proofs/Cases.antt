@@ -1,13 +1,13 @@
 -- Blocks worked out by hand: each by computation. Assumes nothing.
 use mathlib.Core.Path.{refl}
-use Rattle.taken.specs.Rows.{blank}
+use Rattle.area_check.specs.Rows.{blank}
 use Rattle.call_bytes.specs.Words.{words, wordsAt}
 use Rattle.call_bytes.specs.Table.{withTag, kindOf}
 use Rattle.call_bytes.specs.Written.{writtenForm}
 use Rattle.call_bytes.specs.Read.{isRecord, readOf}
-use Rattle.recording.specs.Calls.{callsIn, writtenAll}
-use Rattle.recording.specs.Block.{sumTo, verdictFor}
-use Rattle.recording.specs.Written.{unchecked, blockOf}
+use Rattle.recording.specs.Written.{writtenAll, sumTo, unchecked, blockOf}
+use Rattle.recording.specs.Calls.{callsIn}
+use Rattle.recording.specs.Block.{verdictFor}
 use Rattle.recording.specs.Cases.{BlockCases}
 
 pub block-cases : BlockCases

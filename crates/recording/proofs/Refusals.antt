@@ -8,14 +8,15 @@ use borrow.Author.Tests.{eqb-true, eq-eqb, ne-eqb, leb-true, le-leb}
 use lib.Dec.{eqb, leb}
 use lib.ListN.{length, getD, take, drop, length-drop}
 use lib.Seq.{getD-take, getD-drop, length-take-le}
-use Rattle.taken.specs.Rows.{blank}
+use Rattle.area_check.specs.Rows.{blank}
 use Rattle.call_bytes.specs.Words.{halfAt}
 use Rattle.call_bytes.specs.Written.{Bytes}
 use Rattle.call_bytes.proofs.Exact.{bytes-drop, bytes-take}
 use Rattle.recording.specs.declared.Verdict.{Verdict}
 use Rattle.recording.specs.declared.Verdict.the-variants.{Good, BadLength, BadCheck, BadNumber, BadCount, BadRecord}
 use Rattle.recording.specs.Calls.{callsOf, isSome}
-use Rattle.recording.specs.Block.{sumTo, lengthFits, checkFits, numberFits, countOf, countFits, usedOf, recordsFit, verdictFor, verdictOf, callsAt}
+use Rattle.recording.specs.Written.{sumTo, countOf, usedOf}
+use Rattle.recording.specs.Block.{lengthFits, checkFits, numberFits, countFits, recordsFit, verdictFor, verdictOf, callsAt}
 use Rattle.recording.specs.Refusals.{CountRight, RecordsRight, Right, Told, BlockRefusals}
 use Rattle.recording.proofs.Rows.{back, calls-exact}
 use Rattle.recording.proofs.Blocks.{not-zero, some-listed}

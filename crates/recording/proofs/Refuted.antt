@@ -7,14 +7,15 @@ use mathlib.Core.Bool.{Bool, true, _&&_, and-eq-true-iff}
 use borrow.Author.Tests.{leb-true}
 use lib.Dec.{leb}
 use lib.ListN.{getD}
-use Rattle.taken.specs.Rows.{blank}
+use Rattle.area_check.specs.Rows.{blank}
 use Rattle.call_bytes.specs.Table.{withTag, kindOf}
 use Rattle.call_bytes.specs.Read.{isRecord, readOf}
 use Rattle.recording.specs.declared.Verdict.the-variants.{Good, BadNumber}
 use Rattle.recording.specs.Calls.{callsIn}
-use Rattle.recording.specs.Block.{sumTo}
+use Rattle.recording.specs.Written.{sumTo}
 use Rattle.recording.specs.Cases.{bytes}
-use Rattle.recording.specs.Refusals.{BlockRefusals, numberFirst, restUnseen, BlockMistakesShutOut}
+use Rattle.recording.specs.Mistakes.{numberFirst, restUnseen, BlockMistakesShutOut}
+use Rattle.recording.specs.Refusals.{BlockRefusals}
 
 -- ---- numbers below n, by computation
 

@@ -11,9 +11,12 @@ use Rattle.hub.specs.Call.{Call}
 use Rattle.call_bytes.specs.declared.Recorded.{Recorded}
 use Rattle.call_bytes.specs.Table.{isKnown}
 use Rattle.call_bytes.specs.Written.{written, Bytes}
-use Rattle.call_bytes.specs.Read.{readOf, callIn, Takes, Starts}
+use Rattle.call_bytes.specs.Claims.{Takes, Starts}
+use Rattle.call_bytes.specs.Read.{readOf, callIn}
 use Rattle.call_bytes.proofs.Exact.{record-exact, bytes-drop, read-size}
-use Rattle.recording.specs.Calls.{consTo, endOr, callsIn, callsOf, isSome, writtenAll, AllFit, CallsExact}
+use Rattle.recording.specs.Written.{writtenAll, AllFit}
+use Rattle.recording.specs.Claims.{CallsExact}
+use Rattle.recording.specs.Calls.{consTo, endOr, callsIn, callsOf, isSome}
 
 -- ---- more turns than bytes change nothing
 

@@ -7,11 +7,12 @@ use mathlib.Core.Bool.{Bool, true, false, not, _&&_, and-eq-true-iff}
 use borrow.Author.Tests.{le-leb, lt-leb, leb-true, eq-eqb, ne-eqb}
 use lib.Dec.{leb}
 use lib.ListN.{length, take, drop}
-use Rattle.taken.specs.Rows.{blank}
+use Rattle.area_check.specs.Rows.{blank}
 use Rattle.recording.specs.declared.Verdict.{Verdict}
 use Rattle.recording.specs.declared.Verdict.the-variants.{Good, BadLength, BadCheck, BadNumber, BadCount, BadRecord}
 use Rattle.recording.specs.Calls.{callsOf, isSome}
-use Rattle.recording.specs.Block.{sumTo, numberFits, countOf, countFits, recordsFit, isFilled, bodyOf, verdictFor}
+use Rattle.recording.specs.Written.{sumTo, countOf}
+use Rattle.recording.specs.Block.{numberFits, countFits, recordsFit, isFilled, bodyOf, verdictFor}
 
 pub count-over : (l : List ℕ) (n : ℕ) → n ≡ countOf l → 506 < n → false ≡ countFits l
 count-over l n e h = rw (← e, lt-leb n 506 h)

@@ -1,22 +1,17 @@
--- A block of a recording. A reader must believe: 512 bytes; bytes 0 and 1 hold the block number from 1, little-endian, bytes 2 and 3 the count
--- of bytes used from 4 on, at most 506, and the last two bytes make the sum of all 256 little-endian words zero modulo 65,536. Refusals are
--- block length, check, number, count, record, in that order.
-use Prim.Native.Nat.{ℕ, zero, suc, _+_, _*_, _%_}
+-- Internal, pinned by `BlockRefusals` (Refusals.antt) and `BlockExact` (Claims.antt): the test of a block, in the order length, check, number,
+-- count, record.
+use Prim.Native.Nat.{ℕ, _+_, _%_}
 use mathlib.Core.List.{List}
 use mathlib.Core.Bool.{Bool, true, false, cond, not, _&&_}
 use lib.Dec.{eqb, leb}
 use lib.ListN.{length, take, drop}
 use Rattle.hub.specs.Call.{Call}
-use Rattle.taken.specs.Rows.{blank}
+use Rattle.area_check.specs.Rows.{blank}
 use Rattle.call_bytes.specs.Words.{halfAt}
 use Rattle.recording.specs.declared.Verdict.{Verdict}
 use Rattle.recording.specs.declared.Verdict.the-variants.{Good, BadLength, BadCheck, BadNumber, BadCount, BadRecord}
 use Rattle.recording.specs.Calls.{callsOf, isSome, listed}
-
--- the sum of the first n little-endian words
-unfoldable pub sumTo : List ℕ → ℕ → ℕ
-sumTo l zero = 0
-sumTo l (suc n) = sumTo l n + halfAt l (2 * n)
+use Rattle.recording.specs.Written.{sumTo, countOf, usedOf}
 
 -- a block has 512 bytes
 abbrev pub lengthFits : List ℕ → Bool
@@ -30,16 +25,9 @@ checkFits l = eqb (sumTo l 256 % 65536) 0
 abbrev pub numberFits : ℕ → List ℕ → Bool
 numberFits p l = not (eqb p 0) && eqb (halfAt l 0) p
 
-abbrev pub countOf : List ℕ → ℕ
-countOf l = halfAt l 2
-
 -- at most 506 bytes are used; unused bytes are zero
 abbrev pub countFits : List ℕ → Bool
 countFits l = leb (countOf l) 506 && blank (drop (4 + countOf l) (take 510 l))
-
--- the bytes used
-abbrev pub usedOf : List ℕ → List ℕ
-usedOf l = take (countOf l) (drop 4 l)
 
 -- they are records, one behind the other, and none crosses the block's end
 abbrev pub recordsFit : List ℕ → Bool

@@ -1,15 +1,11 @@
--- The calls of bytes that hold record after record. A reader must believe `writtenAll`, and need not believe `callsOf`: `CallsExact` says that it
--- gives the calls whose written forms, one behind the other, are those bytes, and none for bytes that are no such row.
+-- Internal, pinned by `CallsExact` (Claims.antt): the calls of bytes that hold record after record.
 use Prim.Native.Nat.{ℕ, zero, suc}
-use mathlib.Core.Path.{_≡_}
-use mathlib.Core.Logic.{_↔_}
 use mathlib.Core.Option.{Option, none, some}
-use mathlib.Core.List.{List, [], _∷_, _++_}
+use mathlib.Core.List.{List, [], _∷_}
 use mathlib.Core.Bool.{Bool, true, false, cond}
 use lib.ListN.{length, drop}
 use Rattle.hub.specs.Call.{Call}
 use Rattle.call_bytes.specs.Table.{isKnown}
-use Rattle.call_bytes.specs.Written.{written, Bytes, Fits}
 use Rattle.call_bytes.specs.Read.{readOf, callIn}
 
 abbrev pub consTo : Call → Option (List Call) → Option (List Call)
@@ -38,17 +34,3 @@ isSome (some cs) = true
 abbrev pub listed : Option (List Call) → List Call
 listed none = []
 listed (some cs) = cs
-
--- written one behind the other
-unfoldable pub writtenAll : List Call → List ℕ
-writtenAll [] = []
-writtenAll (c ∷ cs) = written c ++ writtenAll cs
-
--- each of them has a written form
-unfoldable pub AllFit : List Call → Type 0
-AllFit [] = Unit {0}
-AllFit (c ∷ cs) = Fits c × AllFit cs
-
--- bytes are read as these calls exactly if they are their written forms
-abbrev pub CallsExact : Type 0
-CallsExact = (l : List ℕ) (cs : List Call) → Bytes l → (callsOf l ≡ some cs) ↔ (AllFit cs × (l ≡ writtenAll cs))

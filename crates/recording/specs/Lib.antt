@@ -1,5 +1,7 @@
+pub mod Written
 pub mod Calls
 pub mod Block
-pub mod Written
 pub mod Refusals
+pub mod Claims
+pub mod Mistakes
 pub mod Cases

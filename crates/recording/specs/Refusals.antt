@@ -3,17 +3,14 @@
 use Prim.Native.Nat.{ℕ, _+_, _%_, _≤_, _<_}
 use mathlib.Core.Path.{_≡_}
 use mathlib.Core.Logic.{_↔_}
-use mathlib.Core.Bool.{cond}
 use mathlib.Core.List.{List}
-use lib.Dec.{leb}
 use lib.ListN.{length, getD}
 use Rattle.hub.specs.Call.{Call}
 use Rattle.call_bytes.specs.Words.{halfAt}
 use Rattle.call_bytes.specs.Written.{Bytes}
 use Rattle.recording.specs.declared.Verdict.{Verdict}
 use Rattle.recording.specs.declared.Verdict.the-variants.{Good, BadLength, BadCheck, BadNumber, BadCount, BadRecord}
-use Rattle.recording.specs.Calls.{writtenAll, AllFit}
-use Rattle.recording.specs.Block.{sumTo, lengthFits, checkFits, numberFits, countOf, usedOf, recordsFit, bodyOf}
+use Rattle.recording.specs.Written.{writtenAll, AllFit, sumTo, countOf, usedOf}
 
 -- at most 506 bytes are used from 4 on, and unused bytes are zero
 pub record CountRight (l : List ℕ) : Type 0 where
@@ -50,20 +47,3 @@ Told Good p l = Right BadLength p l × (Right BadCheck p l × (Right BadNumber p
 -- a verdict is given exactly if it is the one to be told
 abbrev pub BlockRefusals : (ℕ → List ℕ → Verdict) → Type 0
 BlockRefusals verdict = (v : Verdict) (p : ℕ) (l : List ℕ) → Bytes l → (verdict p l ≡ v) ↔ Told v p l
-
--- ---- verdicts with one mistake each
-
--- the number is tested before the check
-abbrev pub numberFirst : ℕ → List ℕ → Verdict
-numberFirst p l = cond (lengthFits l) (cond (numberFits p l) (cond (checkFits l) (bodyOf l) BadCheck) BadNumber) BadLength
-
--- unused bytes are not looked at
-abbrev pub restUnseen : ℕ → List ℕ → Verdict
-restUnseen p l =
-    cond (lengthFits l)
-    (cond (checkFits l) (cond (numberFits p l) (cond (leb (countOf l) 506) (cond (recordsFit l) Good BadRecord) BadCount) BadNumber) BadCheck)
-    BadLength
-
-pub record BlockMistakesShutOut : Type 0 where
-  pub number-first : ¬ (BlockRefusals numberFirst)
-  pub rest-unseen : ¬ (BlockRefusals restUnseen)

@@ -1,16 +1,35 @@
--- The written form of a block. A reader must believe: the number, the count of bytes used, the records one behind the other, zeros up to byte
--- 509, and a check that makes the sum of all 256 words zero modulo 65,536.
-use Prim.Native.Nat.{ℕ, _-_, _%_, _≤_}
+-- The written form of a block. A reader must believe: 512 bytes; bytes 0 and 1 hold the block number from 1, little-endian, bytes 2 and 3 the
+-- count of bytes used from 4 on, at most 506, then the records one behind the other, zeros up to byte 509, and a check that makes the sum of all
+-- 256 little-endian words zero modulo 65,536.
+use Prim.Native.Nat.{ℕ, zero, suc, _+_, _*_, _-_, _%_, _≤_}
 use mathlib.Core.Path.{_≡_}
-use mathlib.Core.Logic.{_↔_}
-use mathlib.Core.List.{List, _++_}
-use lib.ListN.{length, replicate}
+use mathlib.Core.List.{List, [], _∷_, _++_}
+use lib.ListN.{length, take, drop, replicate}
 use Rattle.hub.specs.Call.{Call}
-use Rattle.call_bytes.specs.Words.{half}
-use Rattle.call_bytes.specs.Written.{Bytes}
-use Rattle.recording.specs.declared.Verdict.the-variants.{Good}
-use Rattle.recording.specs.Calls.{writtenAll, AllFit}
-use Rattle.recording.specs.Block.{sumTo, verdictOf, callsAt}
+use Rattle.call_bytes.specs.Words.{half, halfAt}
+use Rattle.call_bytes.specs.Written.{written, Fits}
+
+-- written one behind the other
+unfoldable pub writtenAll : List Call → List ℕ
+writtenAll [] = []
+writtenAll (c ∷ cs) = written c ++ writtenAll cs
+
+-- each of them has a written form
+unfoldable pub AllFit : List Call → Type 0
+AllFit [] = Unit {0}
+AllFit (c ∷ cs) = Fits c × AllFit cs
+
+-- the sum of the first n little-endian words
+unfoldable pub sumTo : List ℕ → ℕ → ℕ
+sumTo l zero = 0
+sumTo l (suc n) = sumTo l n + halfAt l (2 * n)
+
+abbrev pub countOf : List ℕ → ℕ
+countOf l = halfAt l 2
+
+-- the bytes used
+abbrev pub usedOf : List ℕ → List ℕ
+usedOf l = take (countOf l) (drop 4 l)
 
 -- the bytes used, and zeros up to 506
 abbrev pub padded : List ℕ → List ℕ
@@ -39,9 +58,3 @@ pub record Writable (p : ℕ) (cs : List Call) : Type 0 where
 pub record IsBlock (p : ℕ) (cs : List Call) (l : List ℕ) : Type 0 where
   pub writable : Writable p cs
   pub form : l ≡ blockOf p cs
-
-pub record BlockExact : Type 0 where
-  -- a block is good at its place, with these calls, exactly if it is their written form
-  pub exact : (p : ℕ) (l : List ℕ) (cs : List Call) → Bytes l → ((verdictOf p l ≡ Good) × (callsAt l ≡ cs)) ↔ IsBlock p cs l
-  -- and refused exactly if it is that of no calls
-  pub refused : (p : ℕ) (l : List ℕ) → Bytes l → (¬ (verdictOf p l ≡ Good)) ↔ ((cs : List Call) → ¬ (IsBlock p cs l))

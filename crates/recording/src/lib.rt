@@ -2,10 +2,12 @@
 ghost use mathlib.Core.Path.{_≡_};
 ghost use Prim.Native.Nat.{_≤_, _<_};
 ghost use lib.ListN.{length};
-ghost use Rattle.recording.specs.Calls.{callsOf, isSome, CallsExact};
-ghost use Rattle.recording.specs.Written.{BlockExact};
-ghost use Rattle.recording.specs.Refusals.{BlockRefusals, BlockMistakesShutOut};
-ghost use Rattle.recording.specs.Block.{sumTo, numberFits, countOf, countFits, recordsFit, isFilled, bodyOf, isGood, verdictFor, verdictOf};
+ghost use Rattle.recording.specs.Claims.{CallsExact, BlockExact};
+ghost use Rattle.recording.specs.Calls.{callsOf, isSome};
+ghost use Rattle.recording.specs.Mistakes.{BlockMistakesShutOut};
+ghost use Rattle.recording.specs.Refusals.{BlockRefusals};
+ghost use Rattle.recording.specs.Written.{sumTo, countOf};
+ghost use Rattle.recording.specs.Block.{numberFits, countFits, recordsFit, isFilled, bodyOf, isGood, verdictFor, verdictOf};
 ghost use Rattle.recording.specs.Cases.{BlockCases};
 
 // Good, or the first thing that is wrong.
@@ -79,7 +81,7 @@ fn count_fits(s: &[u8]) -> bool
         return false;
     }
     let start = 4 + n;
-    taken::blank_from(&s[..510], start)
+    area_check::blank_from(&s[..510], start)
 }
 
 fn records_fit(s: &[u8]) -> bool
@@ -124,7 +126,7 @@ pub fn is_filled(s: &[u8]) -> bool
 fn number_fits(s: &[u8], place: u32) -> bool
     ensures { λ r. ⌜ r ≡ numberFits place (now (s .entry)) ⌝ }
 {
-    logic::both(place != 0, call_bytes::half_at(s, 0) == place)
+    bools::both(place != 0, call_bytes::half_at(s, 0) == place)
 }
 
 // The verdict on a block, where the number is tested against a place if asked for.
@@ -137,7 +139,7 @@ pub fn check(s: &[u8], numbered: bool, place: u32) -> Verdict
     if word_sum(s, 256) % 65536 != 0 {
         return Verdict::BadCheck;
     }
-    if logic::both(numbered, !number_fits(s, place)) {
+    if bools::both(numbered, !number_fits(s, place)) {
         return Verdict::BadNumber;
     }
     body(s)

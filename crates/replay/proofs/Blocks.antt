@@ -10,7 +10,8 @@ use lib.Seq.{length-take-le}
 use Rattle.recording.specs.declared.Verdict.{Verdict}
 use Rattle.recording.specs.declared.Verdict.the-variants.{Good, BadLength, BadCheck, BadNumber, BadCount, BadRecord}
 use Rattle.recording.specs.Calls.{callsOf, isSome}
-use Rattle.recording.specs.Block.{countOf, usedOf, verdictOf, isGood, callsAt}
+use Rattle.recording.specs.Written.{countOf, usedOf}
+use Rattle.recording.specs.Block.{verdictOf, isGood, callsAt}
 use Rattle.recording.proofs.Blocks.{Passed, passed}
 use Rattle.hub.specs.declared.Hub.{Hub}
 use Rattle.runs.specs.Tally.{Tally}
@@ -72,12 +73,12 @@ module _ (h : Hub) (p : ℕ) (l o : List ℕ) where
     block-bad r bad e = (rw (le-leb 37444 (length o) room, ← is, bad) e, rw (le-leb 37444 (length o) room, ← is, bad))
 
     pub block-good : (c : Counts) (m o′ : List ℕ) (r : Ran) → isGood v ≡ true → tallyIn c ≡ noTally → m ≡ usedOf l → RanAll h c r m o o′
-        → Gives (record { roomy = true; hub = r .hub; verdict = v; counts = r .counts; written = r .written }) o′
+        → Gives (record { enough = true; hub = r .hub; verdict = v; counts = r .counts; written = r .written }) o′
     unfolding blockGives blockWrites blockPlayed
     block-good c m o′ r good zero u a =
         let w : RanAll h c r (usedOf l) o o′ = subst (λ (x : List ℕ). RanAll h c r x o o′) u a in
         let t : tallyIn (r .counts) ≡ tallied h (callsAt l) noTally = w .tally ∙ ap (tallied h (callsAt l)) zero in (
           rw (le-leb 37444 (length o) room, ← is, good)
-              (λ i. record { roomy = true; hub = w .hub i; verdict = good-is v good i; counts = countsOf (t i); written = w .written i }),
+              (λ i. record { enough = true; hub = w .hub i; verdict = good-is v good i; counts = countsOf (t i); written = w .written i }),
           rw (le-leb 37444 (length o) room, ← is, good) (w .out),
         )

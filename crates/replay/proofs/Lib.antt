@@ -1,5 +1,5 @@
 pub mod Tallying
-pub mod Ways
+pub mod Playing
 pub mod Turning
 pub mod Going
 pub mod Blocks

@@ -6,11 +6,13 @@ use mathlib.Core.List.{List, [], _∷_}
 use mathlib.Core.Bool.{true, false}
 use borrow.Author.Tests.{eq-eqb, le-leb}
 use lib.ListN.{length}
-use Rattle.buffer.specs.Key.{sameKey}
+use Rattle.buffer.specs.Same.{sameKey}
 use Rattle.buffer.specs.Lengths.{numbersFit, startFits}
-use Rattle.translator.specs.Search.{find, chosen, pass}
+use Rattle.translator.specs.Order.{pass}
+use Rattle.translator.specs.Search.{find, chosen}
 use Rattle.translator.specs.Limit.{permitted}
-use Rattle.translator.specs.Order.{tally, ranked}
+use Rattle.translator.specs.Translator.{tally}
+use Rattle.translator.specs.Order.{ranked}
 use Rattle.translator.specs.StartSplit.{stored, startSplit}
 use Rattle.numbers.specs.Split.{splitNamed, splitFrom, keyNamed, keyFrom}
 use Rattle.request.specs.Table.{kindOf}
@@ -19,7 +21,8 @@ use Rattle.hub.specs.declared.Hub.{Hub}
 use Rattle.hub.specs.Hub.{newFits, configuredAs, resetHub}
 use Rattle.hub.specs.Call.{Call, Launch, Tick, BusReset}
 use Rattle.hub.specs.Requests.{requested}
-use Rattle.hub.specs.Step.{within, roomy, heard, fitting, served, step}
+use Rattle.hub.specs.Checks.{within, hasSpace, notSilent, fitting}
+use Rattle.hub.specs.Step.{served, step}
 use Rattle.runs.specs.Machine.{newHubOf, rules, runFrom, afterFrom}
 use Rattle.runs.specs.Tally.{activeBuffers}
 use Rattle.runs.proofs.Refuted.{bench, configure, in-to}
@@ -28,17 +31,15 @@ use Rattle.call_bytes.specs.Table.{withTag, kindOf as kindTagged, formOf}
 use Rattle.call_bytes.specs.Written.{writtenForm, Fits}
 use Rattle.call_bytes.specs.Read.{isRecord, readOf}
 use Rattle.recording.specs.declared.Verdict.the-variants.{Good, BadNumber, BadRecord}
-use Rattle.recording.specs.Calls.{callsIn, callsOf, isSome, writtenAll, AllFit}
-use Rattle.recording.specs.Block.{sumTo, countOf, usedOf, verdictFor, verdictOf, isGood, callsAt}
-use Rattle.recording.specs.Written.{unchecked, checkOf, blockOf, Writable}
+use Rattle.recording.specs.Written.{writtenAll, AllFit, sumTo, countOf, usedOf, unchecked, checkOf, blockOf, Writable}
+use Rattle.recording.specs.Calls.{callsIn, callsOf, isSome}
+use Rattle.recording.specs.Block.{verdictFor, verdictOf, isGood, callsAt}
 use Rattle.recording.proofs.Refuted.{below, below-at}
-use Rattle.recording.proofs.Blocks.{Passed, passed, block-is-good}
-use Rattle.recording.proofs.Blocks.{made, made-length, made-number, made-count, made-used, made-zeros, check-fits}
+use Rattle.recording.proofs.Blocks.{Passed, passed, block-is-good, made, made-length, made-number, made-count, made-used, made-zeros, check-fits}
 use Rattle.replay.specs.Answers.{answerBytes, answersIn}
 use Rattle.replay.specs.Counting.{noTally, tallied}
 use Rattle.replay.specs.Replay.{Replayed, Played, andThen, replayFrom, playing, ReplayExact, ReplayAddsUp, playedCalls, playedNone, blockPlayed}
-use Rattle.replay.specs.ReplayMistakes.{unnumbered, callsBefore, withVerdict, beforeBad, swappedIn, swapped, uncountedIn, uncounted}
-use Rattle.replay.specs.ReplayMistakes.{unrefused, writing, refusalsLeftOut, ReplayMistakesShutOut}
+use Rattle.replay.specs.ReplayMistakes.{unnumbered, callsBefore, withVerdict, beforeBad, swappedIn, swapped, uncountedIn, uncounted, unrefused, writing, refusalsLeftOut, ReplayMistakesShutOut}
 use Rattle.replay.proofs.Replays.{replay-claims}
 
 fits : (c : Call) → below (2 ^ 32) (formOf c .numbers) ≡ true → below 256 (formOf c .bytes) ≡ true → length (formOf c .bytes) < 2 ^ 16 → Fits c
@@ -158,7 +159,7 @@ number-counts claim =
 
 -- a tick is answered in front of a bad record
 none-before : ¬ (ReplayExact (playing beforeBad))
-unfolding answersIn answerBytes runFrom step within roomy heard fitting served
+unfolding answersIn answerBytes runFrom step within hasSpace notSilent fitting served
 none-before claim =
     let z : _≡_ {A = ℕ} 10 0 = ap (λ (x : Replayed Hub). length (x .output)) (shown beforeBad bad (before new) (refuses new) claim) in
     omega (arith, z)
@@ -166,7 +167,7 @@ none-before claim =
 -- the start-split is emptied, not answered
 counts-apart : ¬ (ReplayExact (playing swapped))
 unfolding bench newFits tallied sameKey numbersFit startFits find chosen permitted pass tally ranked stored startSplit splitNamed splitFrom keyNamed
-    keyFrom kindOf asked requestOf configuredAs requested within roomy heard fitting served step resetHub
+    keyFrom kindOf asked requestOf configuredAs requested within hasSpace notSilent fitting served step resetHub
 counts-apart claim =
     let p = plays 1 (omega arith) (omega arith) new in
     let z : _≡_ {A = ℕ} 0 1 = ap (λ (x : Replayed Hub). x .tally .emptied) (shown swapped (blockOf 1 calls) (ap swappedIn p) p claim) in
@@ -175,7 +176,7 @@ counts-apart claim =
 -- .. and the sum lacks it
 emptied-counts : ¬ (ReplayAddsUp (playing uncounted))
 unfolding replayFrom bench newFits afterFrom tallied sameKey numbersFit startFits find chosen permitted pass tally ranked stored startSplit splitNamed
-    splitFrom keyNamed keyFrom kindOf asked requestOf configuredAs requested within roomy heard fitting served step resetHub
+    splitFrom keyNamed keyFrom kindOf asked requestOf configuredAs requested within hasSpace notSilent fitting served step resetHub
 emptied-counts claim =
     let adds : Played Hub → Type 0 = λ a. (let r = alone (uncountedIn a) in
     r .tally .stored ≡ r .tally .answered + r .tally .emptied + activeBuffers (r .state)) in
@@ -185,7 +186,7 @@ emptied-counts claim =
 -- the last call's answer is missing
 refusals-written : ¬ (ReplayExact (playing refusalsLeftOut))
 unfolding bench newFits runFrom answersIn answerBytes unrefused sameKey numbersFit startFits find chosen permitted pass tally ranked stored startSplit
-    splitNamed splitFrom keyNamed keyFrom kindOf asked requestOf configuredAs requested within roomy heard fitting served step resetHub
+    splitNamed splitFrom keyNamed keyFrom kindOf asked requestOf configuredAs requested within hasSpace notSilent fitting served step resetHub
 refusals-written claim =
     let z : _≡_ {A = ℕ} 30 40 =
     ap (λ (x : Replayed Hub). length (x .output))

@@ -5,7 +5,7 @@ use mathlib.Core.Path.{_≡_, refl, _∙_, ap, subst}
 use mathlib.Core.List.{List, [], _∷_}
 use mathlib.Core.Bool.{Bool, true, false, not, _&&_, or-true, false≢true}
 use lib.ListN.{length}
-use Rattle.translator.specs.Order.{bit}
+use Rattle.bools.specs.Bit.{bit}
 use Rattle.numbers.specs.Named.{laneFrom}
 use Rattle.request.specs.Setup.{setupOf}
 use Rattle.request.specs.Table.{kindOf}

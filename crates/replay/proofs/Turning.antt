@@ -8,7 +8,8 @@ use lib.ListN.{length, getD, take, drop, length-drop}
 use lib.Seq.{drop-drop, drop-length}
 use borrow.Rule.Slice.PartMut.{putMid}
 use Rattle.hub.specs.declared.Stepped.{Stepped}
-use Rattle.hub.specs.Call.{Call, Outcome, outcomeOf}
+use Rattle.hub.specs.Method.{outcomeOf}
+use Rattle.hub.specs.Call.{Call, Outcome}
 use Rattle.hub.specs.Step.{step}
 use Rattle.runs.specs.Tally.{Tally, activeBuffers}
 use Rattle.call_bytes.specs.declared.CallKind.{CallKind}

@@ -1,4 +1,5 @@
--- What the code gives of a block, and its tally as the definitions' tally.
+-- Internal, pinned by `ReplayClaims` (Replay.antt) and `EntryReplays` (crate `grimholdi_replay`): what the code gives of a block, and its tally
+-- as the definitions' tally.
 use Prim.Native.Nat.{ℕ}
 use mathlib.Core.Bool.{Bool, true, false, cond}
 use mathlib.Core.List.{List, _++_}
@@ -21,19 +22,19 @@ countsOf t = record { stored = t .stored; answered = t .answered; emptied = t .e
 abbrev pub answersLength : ℕ
 answersLength = 37444
 
-abbrev pub isRoomy : ℕ → Bool
-isRoomy room = leb answersLength room
+abbrev pub isEnough : ℕ → Bool
+isEnough room = leb answersLength room
 
 abbrev pub gives : Bool → Played Hub → Block
-gives roomy a = record { roomy = roomy; hub = a .state; verdict = a .verdict; counts = countsOf (a .tally); written = length (a .output) }
+gives enough a = record { enough = enough; hub = a .state; verdict = a .verdict; counts = countsOf (a .tally); written = length (a .output) }
 
 -- the block b at the place p, on the hub h, with so much room for answers
 unfoldable pub blockGives : Hub → ℕ → List ℕ → ℕ → Block
-blockGives h p b room = cond (isRoomy room) (gives true (blockPlayed h p b)) (gives false (playedNone h Good))
+blockGives h p b room = cond (isEnough room) (gives true (blockPlayed h p b)) (gives false (playedNone h Good))
 
 -- at the start of the output o
 abbrev pub putFirst : List ℕ → List ℕ → List ℕ
 putFirst l o = l ++ drop (length l) o
 
 unfoldable pub blockWrites : Hub → ℕ → List ℕ → List ℕ → List ℕ
-blockWrites h p b o = cond (isRoomy (length o)) (putFirst (blockPlayed h p b .output) o) o
+blockWrites h p b o = cond (isEnough (length o)) (putFirst (blockPlayed h p b .output) o) o

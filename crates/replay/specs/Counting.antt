@@ -1,4 +1,4 @@
--- The tally as replay counts it, call by call. What it counts is the tally over the history: `Counted`.
+-- Internal, pinned by `Counted`, at its end: the tally as replay counts it, call by call. What it counts is the tally over the history.
 use Prim.Native.Nat.{ℕ, _+_, _-_}
 use mathlib.Core.Path.{_≡_}
 use mathlib.Core.List.{List, [], _∷_}

@@ -13,7 +13,8 @@ use Rattle.call_bytes.specs.Table.{isKnown}
 use Rattle.call_bytes.specs.Read.{readOf, callIn}
 use Rattle.recording.specs.declared.Verdict.{Verdict}
 use Rattle.recording.specs.declared.Verdict.the-variants.{Good, BadLength, BadCheck, BadNumber, BadCount, BadRecord}
-use Rattle.recording.specs.Block.{usedOf, verdictFor, verdictOf, isGood, callsAt}
+use Rattle.recording.specs.Written.{usedOf}
+use Rattle.recording.specs.Block.{verdictFor, verdictOf, isGood, callsAt}
 use Rattle.replay.specs.Answers.{answerBytes}
 use Rattle.replay.specs.Replay.{Played, playedCalls, playedNone, blockPlayed, playing, ReplayExact, ReplayAddsUp}
 

@@ -1,4 +1,4 @@
--- What the code promises of a block's records: one record, and all of them.
+-- Internal, pinned by `ReplayClaims` (Replay.antt): what the code promises of a block's records, one record and all of them.
 use Prim.Native.Nat.{ℕ, _+_, _*_, _<_, _≤_, _^_}
 use mathlib.Core.Path.{_≡_}
 use mathlib.Core.Bool.{true}

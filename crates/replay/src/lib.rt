@@ -3,8 +3,8 @@ ghost use mathlib.Core.Path.{_≡_};
 ghost use Prim.Native.Nat.{_+_, _≤_, _<_, _^_};
 ghost use lib.ListN.{length};
 ghost use Rattle.buffer.specs.Buffer.{isActive};
-ghost use Rattle.translator.specs.Order.{bit};
-ghost use Rattle.hub.specs.Call.{outcomeOf};
+ghost use Rattle.bools.specs.Bit.{bit};
+ghost use Rattle.hub.specs.Method.{outcomeOf};
 ghost use Rattle.hub.specs.Step.{step};
 ghost use Rattle.runs.specs.Tally.{activeBuffers};
 ghost use Rattle.call_bytes.specs.Table.{callOf};
@@ -80,17 +80,10 @@ fn is_active(slot: Slot) -> bool
     }
 }
 
-fn bit_of(b: bool) -> u8
-    ensures { λ r. ⌜ r ≡ bit b ⌝ }
-    ensures small { λ r. ⌜ r ≤ 1 ⌝ }
-{
-    if b { 1 } else { 0 }
-}
-
 fn how_many(a: bool, b: bool, c: bool, d: bool) -> u8
     ensures { λ r. ⌜ (r ≡ bit a + (bit b + (bit c + bit d))) × (r ≤ 4) ⌝ }
 {
-    bit_of(a) + (bit_of(b) + (bit_of(c) + bit_of(d)))
+    bools::bit_of(a) + (bools::bit_of(b) + (bools::bit_of(c) + bools::bit_of(d)))
 }
 
 // How many buffers are pending or ready.
@@ -220,7 +213,7 @@ fn run_records(hub: Hub, counts: Counts, s: &[u8], out: &mut [u8]) -> Ran
 // What became of a block: the hub that it leaves, its part of the tally, how many bytes were written, and Good or what is wrong with it.
 // Where there is no room for its answers, it isn't looked at.
 pub struct Block {
-    pub roomy: bool,
+    pub enough: bool,
     pub hub: Hub,
     pub verdict: Verdict,
     pub counts: Counts,
@@ -237,11 +230,11 @@ fn no_counts() -> Counts
     }
 }
 
-fn left_alone(roomy: bool, hub: Hub, verdict: Verdict) -> Block
-    ensures { λ r. ⌜ r ≡ gives roomy (playedNone hub verdict) ⌝ }
+fn left_alone(enough: bool, hub: Hub, verdict: Verdict) -> Block
+    ensures { λ r. ⌜ r ≡ gives enough (playedNone hub verdict) ⌝ }
 {
     Block {
-        roomy,
+        enough,
         hub,
         verdict,
         counts: no_counts(),
@@ -267,7 +260,7 @@ pub fn replay_block(hub: Hub, place: u32, block: &[u8], out: &mut [u8]) -> Block
     let next = ran.hub;
     let counts = ran.counts;
     Block {
-        roomy: true,
+        enough: true,
         hub: next,
         verdict,
         counts,

@@ -7,7 +7,9 @@ use native.Mathlib.Omega.{arith}
 use Rattle.request.specs.Setup.{setupOf}
 use Rattle.request.specs.Table.{kindOf}
 use Rattle.request.specs.Request.{requestOf}
-use Rattle.request.specs.Claims.{AsksFor, InRange, RequestClaims}
+use Rattle.request.specs.Fields.{AsksFor}
+use Rattle.request.specs.Ranges.{InRange}
+use Rattle.request.specs.Claims.{RequestClaims}
 use Rattle.request.proofs.Exact.{named-by, checks, asks, reads, ranged}
 
 read-asks : (n : ℕ) (b : List ℕ) → setupOf b .value < 65536 → AsksFor n (setupOf b) (requestOf n b)

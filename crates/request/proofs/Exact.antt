@@ -2,7 +2,7 @@
 -- Assumes nothing.
 use Prim.Native.Nat.{ℕ, zero, suc, _/_, _%_, _<_, _≤_}
 use mathlib.Core.Path.{_≡_, refl, _∙_, ap}
-use mathlib.Core.Bool.{true, false, cond, _&&_, true≢false}
+use mathlib.Core.Bool.{true, false, cond, _&&_}
 use mathlib.Core.Logic.{_⊎_, inl, inr, ⊎-map, ⊎-elim}
 use native.Mathlib.Omega.{arith}
 use lib.Dec.{eqb, leb}
@@ -18,7 +18,8 @@ use Rattle.request.specs.Values.{pipeIn}
 use Rattle.request.specs.Table.{kindOf, isKnown, valueFits, isPort, indexFits, lengthFits}
 use Rattle.port.specs.declared.PortNumber.{PortNumber}
 use Rattle.request.specs.Request.{portIn, meaning, checked}
-use Rattle.request.specs.Claims.{PortOf, PipeInRange, fields, AsksFor, isWrong, InRange}
+use Rattle.request.specs.Fields.{PortOf, PipeInRange, fields, AsksFor}
+use Rattle.request.specs.Ranges.{InRange}
 use Rattle.request.proofs.Written.{by-cond, and-left, and-right, one-back, settable-back, settable-fits, settable-read, clearable-back, clearable-fits, clearable-read, pipe-back, pipe-fits, pipe-read}
 
 abbrev TypeAndCode : ℕ → ℕ → Kind → Type 0
@@ -105,9 +106,9 @@ asked n s = checked n (kindOf (s .requesttype) (s .code)) (s .value) (s .index) 
 at-port : (n : ℕ) (p : PortNumber) → PortOf n p → isPort n (p .0) ≡ true
 at-port n p h = rw (le-leb 1 (p .0) (h .0), le-leb (p .0) n (h .1))
 
-pub reads : (n : ℕ) (s : Setup) (r : Request) → isWrong r ≡ false → AsksFor n s r → asked n s ≡ r
+pub reads : (n : ℕ) (s : Setup) (r : Request) → ((f : Fault) → ¬ (r ≡ request.Wrong f)) → AsksFor n s r → asked n s ≡ r
 unfolding kindOf checked
-reads n s (request.Wrong f) o w = absurd (true≢false o)
+reads n s (request.Wrong f) o w = absurd (o f refl)
 reads n s (request.SetConfiguration true) o w = ap (asked n) w
 reads n s (request.SetConfiguration false) o w = ap (asked n) w
 reads n s request.GetConfiguration o w = ap (asked n) w

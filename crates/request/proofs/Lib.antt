@@ -1,5 +1,5 @@
 pub mod KindNamed
-pub mod Ways
+pub mod Reading
 pub mod Written
 pub mod Exact
 pub mod Claimed

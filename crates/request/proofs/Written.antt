@@ -17,7 +17,7 @@ use Rattle.buffer.specs.declared.Direction.{Direction}
 use Rattle.buffer.specs.declared.Direction.the-variants.{Out, In}
 use Rattle.request.specs.declared.Pipe.{Pipe}
 use Rattle.request.specs.Values.{isSettable, settableOf, isClearable, changeOf, clearableOf, isPipe, directionIn, pipeIn}
-use Rattle.request.specs.Claims.{settableNumber, changeNumber, clearableNumber, directionBit, pipeValue, PipeInRange}
+use Rattle.request.specs.Fields.{settableNumber, changeNumber, clearableNumber, directionBit, pipeValue, PipeInRange}
 
 pub by-cond : {A : Type 0} (P : A → Type 0) (x : Bool) {a b : A} → (x ≡ true → P a) → (x ≡ false → P b) → P (cond x a b)
 by-cond P true h g = h refl

@@ -1,5 +1,5 @@
--- From the setup bytes to the request. A reader must believe: a request is served only if type and code, value, index and length are right,
--- looked at in this order, and then it is what `meaning` says.
+-- Internal, pinned by `RequestClaims` (Claims.antt): from the setup bytes to the request. A request is served only if type and code, value, index
+-- and length are right, looked at in this order, and then it is what `meaning` says.
 use Prim.Native.Nat.{ℕ}
 use mathlib.Core.Bool.{cond}
 use mathlib.Core.List.{List}

@@ -1,5 +1,5 @@
--- The table of document 01, "Requests and layouts". A reader must believe: one row here per row there, with its type, code and fields.
--- Unlisted fields are zero, wIndex high byte included.
+-- Internal, pinned by `RequestClaims` (Claims.antt), which ties it to Fields.antt: the table of document 01, "Requests and layouts", read from
+-- the fields to the request. One row here per row there, with its type, code and fields. Unlisted fields are zero, wIndex high byte included.
 use Prim.Native.Nat.{ℕ}
 use mathlib.Core.Bool.{Bool, true, false, cond, _&&_}
 use lib.Dec.{eqb, leb}

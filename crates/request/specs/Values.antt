@@ -1,5 +1,5 @@
--- What wValue says. A reader must believe: these are the features and the address, endpoint and direction of document 01, with its numbers.
--- Which numbers are allowed stands beside what they mean; a meaning is used only where its number is allowed.
+-- Internal, pinned by `RequestClaims` (Claims.antt): what wValue says, which is the features and the address, endpoint and direction of document
+-- 01, with its numbers. Which are allowed stands beside what they mean; a meaning is used only where its number is allowed.
 use Prim.Native.Nat.{ℕ, _/_, _%_}
 use mathlib.Core.Bool.{Bool, cond, _&&_, _||_}
 use lib.Dec.{eqb, leb}

@@ -120,7 +120,7 @@ pub fn kind_of(requesttype: u8, code: u8) -> Kind
 fn is_settable(value: u16) -> bool
     ensures { λ r. ⌜ r ≡ isSettable value ⌝ }
 {
-    logic::either(value == 2, logic::either(value == 4, value == 8))
+    bools::either(value == 2, bools::either(value == 4, value == 8))
 }
 
 fn settable_of(value: u16) -> SettableFeature
@@ -136,11 +136,11 @@ fn settable_of(value: u16) -> SettableFeature
 fn is_clearable(value: u16) -> bool
     ensures { λ r. ⌜ r ≡ isClearable value ⌝ }
 {
-    logic::either(
+    bools::either(
         value == 1,
-        logic::either(
+        bools::either(
             value == 2,
-            logic::either(value == 8, logic::both(16 <= value, value <= 20)),
+            bools::either(value == 8, bools::both(16 <= value, value <= 20)),
         ),
     )
 }
@@ -173,8 +173,8 @@ fn is_pipe(value: u16) -> bool
     ensures { λ r. ⌜ r ≡ isPipe value ⌝ }
 {
     let transfer = value / 2048 % 4;
-    logic::both(
-        logic::either(transfer == 0, transfer == 2),
+    bools::both(
+        bools::either(transfer == 0, transfer == 2),
         value / 8192 % 4 == 0,
     )
 }
@@ -203,7 +203,7 @@ fn pipe_in(value: u16) -> Pipe
 fn is_port(ports: PortCount, index: u16) -> bool
     ensures { λ r. ⌜ r ≡ isPort (ports .0) index ⌝ }
 {
-    logic::both(1 <= index, index <= ports.0 as u16)
+    bools::both(1 <= index, index <= ports.0 as u16)
 }
 
 // The port that wIndex names, once it is found to be one of the hub's.

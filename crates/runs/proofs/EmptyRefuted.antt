@@ -5,14 +5,16 @@ use mathlib.Core.Path.{_≡_, sym, _∙_, ap}
 use mathlib.Core.List.{List, [], _∷_, map}
 use lib.ListN.{getD}
 use Rattle.payload.specs.Payload.{payloadOf}
-use Rattle.buffer.specs.Key.{sameKey}
+use Rattle.buffer.specs.Same.{sameKey}
 use Rattle.buffer.specs.Lengths.{numbersFit, startFits}
 use Rattle.ports.specs.Ports.{portAt}
 use Rattle.ports.specs.Sweep.{front, swept}
 use Rattle.ports.specs.Bitmap.{bitmapOf}
-use Rattle.translator.specs.Search.{find, chosen, pass}
+use Rattle.translator.specs.Order.{pass}
+use Rattle.translator.specs.Search.{find, chosen}
 use Rattle.translator.specs.Limit.{permitted}
-use Rattle.translator.specs.Order.{tally, ranked, earliest}
+use Rattle.translator.specs.Translator.{tally}
+use Rattle.translator.specs.Order.{ranked, earliest}
 use Rattle.translator.specs.StartSplit.{stored, startSplit}
 use Rattle.translator.specs.CompleteSplit.{completeSplit}
 use Rattle.translator.specs.Launch.{launch}
@@ -23,7 +25,8 @@ use Rattle.hub.specs.Hub.{configuredAs, tickedHub}
 use Rattle.hub.specs.Call.{Call, Control, Poll, Start, Launch, Tick, Answer, plainAnswer}
 use Rattle.hub.specs.Requests.{requested}
 use Rattle.hub.specs.Rules.{polled}
-use Rattle.hub.specs.Step.{within, roomy, heard, fitting, served, step}
+use Rattle.hub.specs.Checks.{within, hasSpace, notSilent, fitting}
+use Rattle.hub.specs.Step.{served, step}
 use Rattle.runs.specs.History.{Event}
 use Rattle.runs.specs.Machine.{runFrom}
 use Rattle.runs.specs.Altered as of
@@ -58,14 +61,14 @@ none-zero of.lowspeed e = omega (arith, e)
 none-zero of.toggle e = omega (arith, e)
 
 dropping : (f : Field) (drop : Answer → Answer) → ((a : Answer) → fieldOf f (drop a) ≡ 0) → ¬ (Demand2 (answering (λ h a. drop a)))
-unfolding bench runFrom payloadOf sameKey portAt numbersFit startFits front swept bitmapOf find chosen permitted pass tally ranked earliest stored startSplit completeSplit launch splitNamed splitFrom keyNamed keyFrom kindOf checked requestOf configuredAs tickedHub requested polled within roomy heard fitting served step
+unfolding bench runFrom payloadOf sameKey portAt numbersFit startFits front swept bitmapOf find chosen permitted pass tally ranked earliest stored startSplit completeSplit launch splitNamed splitFrom keyNamed keyFrom kindOf checked requestOf configuredAs tickedHub requested polled within hasSpace notSilent fitting served step
 dropping f drop is claim =
     let z : fieldOf f (drop launched) ≡ fieldOf f launched =
     ap (λ (es : List Event). fieldOf f (answer-at 2 es)) (claim bench (configure ∷ in-full ∷ Launch 64 ∷ [])) in
     none-zero f (sym (is launched) ∙ z)
 
 pub empty-programs-shut-out : EmptyProgramsShutOut
-unfolding bench runFrom payloadOf sameKey portAt numbersFit startFits front swept bitmapOf find chosen permitted pass tally ranked earliest stored startSplit completeSplit splitNamed splitFrom keyNamed keyFrom kindOf checked requestOf configuredAs tickedHub requested polled within roomy heard fitting served step
+unfolding bench runFrom payloadOf sameKey portAt numbersFit startFits front swept bitmapOf find chosen permitted pass tally ranked earliest stored startSplit completeSplit splitNamed splitFrom keyNamed keyFrom kindOf checked requestOf configuredAs tickedHub requested polled within hasSpace notSilent fitting served step
 empty-programs-shut-out =
     record {
       refusing = λ claim. let z : _≡_ {A = ℕ} 8 0 = ap (number-at 0) (claim bench (Tick ∷ [])) in omega (arith, z);

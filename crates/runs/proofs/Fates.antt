@@ -10,7 +10,8 @@ use lib.ListN.{length}
 use lib.Dec.{eqb}
 use Rattle.buffer.specs.declared.Lane.{Lane}
 use Rattle.buffer.specs.declared.Key.{Key}
-use Rattle.buffer.specs.Key.{sameLane, sameKey}
+use Rattle.buffer.specs.Same.{sameKey}
+use Rattle.buffer.specs.Key.{sameLane}
 use Rattle.buffer.proofs.Keys.{same-true, same-refl, same-eq}
 use Rattle.numbers.specs.Named.{laneFrom}
 use Rattle.request.specs.declared.Kind.{Kind}
@@ -18,7 +19,7 @@ use Rattle.request.specs.declared.Kind.the-variants as kind
 use Rattle.request.specs.Setup.{setupOf}
 use Rattle.request.specs.Table.{kindOf}
 use Rattle.hub.specs.Call.{Call, Control, Poll, Start, Complete, Launch, Deliver, Event as Line, Tick, BusReset}
-use Rattle.runs.specs.History.{History, Asks, nothing, starts, completes, launches, delivers, clears, resets, empties, requestAsks, asks, isDone, isResult, openAfter, isOpen, stores, lastStored, isAt}
+use Rattle.runs.specs.History.{History, Asks, nothing, starts, completes, launches, delivers, clears, resets, empties, requestAsks, asks, isDone, givesResult, openAfter, isOpen, stores, lastStored, isAt}
 use Rattle.runs.specs.Order.{callAt, isFrom}
 use Rattle.runs.specs.Tally.{storesIt, answersIt, emptiesIt, isStoredAt, isAnsweredAt, isEmptiedAt}
 use Rattle.runs.proofs.Histories.{Below, stored-below, not-new, some-inj, one-key}
@@ -78,7 +79,7 @@ late-answered (e ∷ h) s l = go (asks (e .call)) (late-answered h s (omega arit
     go : (x : Asks) → isAnsweredAt h s ≡ false → (answersIt x (e .answer) h s || isAnsweredAt h s) ≡ false
     go nothing p = p
     go (starts k) p = p
-    go (completes k) p = rw (p, at-late h k s (omega arith), and-false (isResult (e .answer)))
+    go (completes k) p = rw (p, at-late h k s (omega arith), and-false (givesResult (e .answer)))
     go launches p = p
     go (delivers r y) p = p
     go (clears k) p = p
@@ -204,12 +205,12 @@ open-waits (e ∷ h) k s o l = go (asks (e .call)) o l (open-waits h k s)
               not-answered = late-answered h s (omega (arith, here));
               not-emptied = late-emptied h s (omega (arith, here));
             }
-    go (completes k′) o l ih = by (isResult (e .answer) && sameKey k′ k) refl o
+    go (completes k′) o l ih = by (givesResult (e .answer) && sameKey k′ k) refl o
       where
-        by : (d : Bool) → (isResult (e .answer) && sameKey k′ k) ≡ d → (not d && isOpen h k) ≡ true
-            → Waiting (isStoredAt h s) ((isResult (e .answer) && isAt (lastStored h k′) s) || isAnsweredAt h s) (isEmptiedAt h s)
+        by : (d : Bool) → (givesResult (e .answer) && sameKey k′ k) ≡ d → (not d && isOpen h k) ≡ true
+            → Waiting (isStoredAt h s) ((givesResult (e .answer) && isAt (lastStored h k′) s) || isAnsweredAt h s) (isEmptiedAt h s)
         by true q y = absurd (false≢true y)
-        by false q y = still-waits (isStoredAt h s) (isAnsweredAt h s) (isEmptiedAt h s) false (isResult (e .answer) && isAt (lastStored h k′) s) false (ih y l) (other (isResult (e .answer)) k′ q l) refl
+        by false q y = still-waits (isStoredAt h s) (isAnsweredAt h s) (isEmptiedAt h s) false (givesResult (e .answer) && isAt (lastStored h k′) s) false (ih y l) (other (givesResult (e .answer)) k′ q l) refl
     go (clears k′) o l ih = by (isDone (e .answer) && sameKey k′ k) refl o
       where
         by : (d : Bool) → (isDone (e .answer) && sameKey k′ k) ≡ d → (not d && isOpen h k) ≡ true
@@ -274,14 +275,14 @@ opener (e ∷ h) s w = go (asks (e .call)) refl w (opener h s)
           where
             again : Opener h s → Opener (e ∷ h) s
             again o = stays (starts k) q o (rw (o .opened) (or-true (isDone (e .answer) && sameKey k (o .key)))) (rw (o .opened) (and-false (isDone (e .answer) && sameKey k (o .key))))
-    go (completes k) q w ih = by (isResult (e .answer) && isAt (lastStored h k) s) refl (w .not-answered)
+    go (completes k) q w ih = by (givesResult (e .answer) && isAt (lastStored h k) s) refl (w .not-answered)
       where
-        by : (t : Bool) → (isResult (e .answer) && isAt (lastStored h k) s) ≡ t → (t || isAnsweredAt h s) ≡ false → Opener (e ∷ h) s
+        by : (t : Bool) → (givesResult (e .answer) && isAt (lastStored h k) s) ≡ t → (t || isAnsweredAt h s) ≡ false → Opener (e ∷ h) s
         by true p n = absurd (true≢false n)
         by false p n = again (ih (record { was-stored = w .was-stored; not-answered = n; not-emptied = w .not-emptied }))
           where
             again : Opener h s → Opener (e ∷ h) s
-            again o = stays (completes k) q o (kept (isResult (e .answer)) k o p) refl
+            again o = stays (completes k) q o (kept (givesResult (e .answer)) k o p) refl
     go (clears k) q w ih = by (isDone (e .answer) && isAt (lastStored h k) s) refl (w .not-emptied)
       where
         by : (t : Bool) → (isDone (e .answer) && isAt (lastStored h k) s) ≡ t → ((t && (isStoredAt h s && not (isAnsweredAt h s))) || isEmptiedAt h s) ≡ false → Opener (e ∷ h) s

@@ -36,7 +36,8 @@ use Rattle.hub.specs.Hub.{withPorts, withTranslator, configuredAs, resetHub, ti
 use Rattle.hub.specs.Call.{Call, Control, Poll, Start, Complete, Launch, Deliver, Event as Line, Tick, BusReset, Answer, Outcome, plainAnswer, pidAnswer, plain, done, refuse, gives}
 use Rattle.hub.specs.Requests.{keyed, setFeature, clearFeature, byRequest, servedAlways, requested}
 use Rattle.hub.specs.Rules.{polled, completedBy, launchedBy}
-use Rattle.hub.specs.Step.{within, roomy, heard, fitting, served, firstRefusal, step}
+use Rattle.hub.specs.Checks.{within, hasSpace, notSilent, fitting, firstRefusal}
+use Rattle.hub.specs.Step.{served, step}
 use Rattle.runs.specs.History.{Asks, nothing, starts, completes, launches, delivers, clears, resets, empties, keyOf, requestAsks, asks, answerKey}
 use Rattle.runs.specs.Altered.{withBytes}
 use Rattle.runs.specs.Demand3.{Marks}
@@ -165,29 +166,29 @@ module _ (m : Marks) where
   hide-within h Tick = refl
   hide-within h BusReset = refl
 
-  hide-roomy : (h : Hub) (c : Call) → roomy (hideC h c) ≡ roomy c
-  unfolding roomy
-  hide-roomy h (Control z s room) = refl
-  hide-roomy h (Poll z room) = refl
-  hide-roomy h (Start z p t f g a e l) = refl
-  hide-roomy h (Complete z a e d room) = refl
-  hide-roomy h (Launch room) = refl
-  hide-roomy h (Deliver r l) = refl
-  hide-roomy h (Line e n) = refl
-  hide-roomy h Tick = refl
-  hide-roomy h BusReset = refl
+  hide-space : (h : Hub) (c : Call) → hasSpace (hideC h c) ≡ hasSpace c
+  unfolding hasSpace
+  hide-space h (Control z s room) = refl
+  hide-space h (Poll z room) = refl
+  hide-space h (Start z p t f g a e l) = refl
+  hide-space h (Complete z a e d room) = refl
+  hide-space h (Launch room) = refl
+  hide-space h (Deliver r l) = refl
+  hide-space h (Line e n) = refl
+  hide-space h Tick = refl
+  hide-space h BusReset = refl
 
-  hide-heard : (h : Hub) (c : Call) → heard (hideH h) (hideC h c) ≡ heard h c
-  unfolding heard
-  hide-heard h (Control z s room) = refl
-  hide-heard h (Poll z room) = refl
-  hide-heard h (Start z p t f g a e l) = refl
-  hide-heard h (Complete z a e d room) = refl
-  hide-heard h (Launch room) = refl
-  hide-heard h (Deliver r l) = refl
-  hide-heard h (Line e n) = refl
-  hide-heard h Tick = refl
-  hide-heard h BusReset = refl
+  hide-silent : (h : Hub) (c : Call) → notSilent (hideH h) (hideC h c) ≡ notSilent h c
+  unfolding notSilent
+  hide-silent h (Control z s room) = refl
+  hide-silent h (Poll z room) = refl
+  hide-silent h (Start z p t f g a e l) = refl
+  hide-silent h (Complete z a e d room) = refl
+  hide-silent h (Launch room) = refl
+  hide-silent h (Deliver r l) = refl
+  hide-silent h (Line e n) = refl
+  hide-silent h Tick = refl
+  hide-silent h BusReset = refl
 
   hide-fitting : (h : Hub) (c : Call) → fitting (hideH h) (hideC h c) ≡ fitting h c
   unfolding fitting
@@ -222,7 +223,7 @@ module _ (m : Marks) where
 
   pub step-hide : (h : Hub) (c : Call) → step (hideH h) (hideC h c) ≡ hideO (asks c) (step h c)
   unfolding step
-  step-hide h c = rw (hide-within h c, hide-roomy h c, hide-heard h c, hide-fitting h c) (go (within h c) refl (roomy c) (heard h c) (fitting h c))
+  step-hide h c = rw (hide-within h c, hide-space h c, hide-silent h c, hide-fitting h c) (go (within h c) refl (hasSpace c) (notSilent h c) (fitting h c))
     where
       go : (w : Bool) → within h c ≡ w → (r s f : Bool)
           → cond (eqb (firstRefusal w r s f) 0) (served (hideH h) (hideC h c)) (refuse (firstRefusal w r s f) (hideH h))

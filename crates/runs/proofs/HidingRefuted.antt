@@ -11,12 +11,14 @@ use Rattle.buffer.specs.declared.Key.{Key}
 use Rattle.buffer.specs.declared.Lane.{Lane}
 use Rattle.buffer.specs.declared.Lane.the-variants.{Zero}
 use Rattle.buffer.specs.declared.Direction.the-variants as direction
-use Rattle.buffer.specs.Key.{sameKey}
+use Rattle.buffer.specs.Same.{sameKey}
 use Rattle.buffer.specs.Lengths.{numbersFit, startFits, resultLength}
 use Rattle.ports.specs.Sweep.{front, swept}
-use Rattle.translator.specs.Search.{find, chosen, pass}
+use Rattle.translator.specs.Order.{pass}
+use Rattle.translator.specs.Search.{find, chosen}
 use Rattle.translator.specs.Limit.{permitted}
-use Rattle.translator.specs.Order.{tally, ranked, earliest}
+use Rattle.translator.specs.Translator.{tally}
+use Rattle.translator.specs.Order.{ranked, earliest}
 use Rattle.translator.specs.StartSplit.{stored, startSplit}
 use Rattle.translator.specs.CompleteSplit.{completeSplit}
 use Rattle.translator.specs.Launch as launching
@@ -31,7 +33,8 @@ use Rattle.request.specs.Request.{checked as asked, requestOf}
 use Rattle.hub.specs.Hub.{newFits, configuredAs}
 use Rattle.hub.specs.Call.{Call, Control, Poll, Start, Complete, Launch, Deliver, Event as Line, Tick, BusReset, Answer, plainAnswer}
 use Rattle.hub.specs.Requests.{requested}
-use Rattle.hub.specs.Step.{within, roomy, heard, fitting, served, step}
+use Rattle.hub.specs.Checks.{within, hasSpace, notSilent, fitting}
+use Rattle.hub.specs.Step.{served, step}
 use Rattle.runs.specs.History.{Delivered, keyOf, requestAsks, asks, openAfter, isOpen, stores, lastStored, forAfter, lastFor, deliveredFor}
 use Rattle.runs.specs.Machine.{ruled, runFrom}
 use Rattle.runs.specs.Demand3.{Marks, onlyKey, same, start, deliver, SameCalls, Excepted, SameAnswer, SameAnswers, MarkHidden, AllExplained, DataExplained}
@@ -63,7 +66,7 @@ same-field of.toggle s = s .toggle
 
 -- the payload of a start-split shows in the next answer
 shown : (f : Field) (put : ℕ → Answer → Answer) → Puts f put → ¬ (MarkHidden (showing put))
-unfolding bench newFits runFrom SameCalls SameAnswers padded payloadOf sameKey numbersFit startFits resultLength front swept find chosen permitted pass tally ranked earliest stored startSplit completeSplit launching.launch delivering.deliver splitNamed splitFrom keyNamed keyFrom kindOf asked requestOf configuredAs requested within roomy heard fitting served step asks openAfter isOpen stores lastStored forAfter lastFor deliveredFor
+unfolding bench newFits runFrom SameCalls SameAnswers padded payloadOf sameKey numbersFit startFits resultLength front swept find chosen permitted pass tally ranked earliest stored startSplit completeSplit launching.launch delivering.deliver splitNamed splitFrom keyNamed keyFrom kindOf asked requestOf configuredAs requested within hasSpace notSilent fitting served step asks openAfter isOpen stores lastStored forAfter lastFor deliveredFor
 shown f put is claim =
     let calls : List ℕ → List Call = λ x. configure ∷ out-5 x ∷ Tick ∷ [] in
     let answers =
@@ -72,7 +75,7 @@ shown f put is claim =
     omega (arith, z)
 
 size-shown : ¬ (MarkHidden (altered sizeShows))
-unfolding bench newFits runFrom SameCalls SameAnswers padded payloadOf sameKey numbersFit startFits resultLength front swept find chosen permitted pass tally ranked earliest stored startSplit completeSplit launching.launch delivering.deliver splitNamed splitFrom keyNamed keyFrom kindOf asked requestOf configuredAs requested within roomy heard fitting served step asks openAfter isOpen stores lastStored forAfter lastFor deliveredFor
+unfolding bench newFits runFrom SameCalls SameAnswers padded payloadOf sameKey numbersFit startFits resultLength front swept find chosen permitted pass tally ranked earliest stored startSplit completeSplit launching.launch delivering.deliver splitNamed splitFrom keyNamed keyFrom kindOf asked requestOf configuredAs requested within hasSpace notSilent fitting served step asks openAfter isOpen stores lastStored forAfter lastFor deliveredFor
 size-shown claim =
     let calls : List ℕ → List Call = λ x. configure ∷ in-to 5 ∷ Launch 64 ∷ Deliver 3 x ∷ complete 5 1 ∷ [] in
     let answers =
@@ -83,7 +86,7 @@ size-shown claim =
 
 -- the marked payload lies in buffer 0 when device 6, in buffer 1, is launched
 wrong-payload : ¬ (MarkHidden (altered wrongPayload))
-unfolding bench newFits runFrom SameCalls SameAnswers padded payloadOf sameKey numbersFit startFits resultLength front swept find chosen permitted pass tally ranked earliest stored startSplit completeSplit launching.launch delivering.deliver splitNamed splitFrom keyNamed keyFrom kindOf asked requestOf configuredAs requested within roomy heard fitting served step asks openAfter isOpen stores lastStored forAfter lastFor deliveredFor
+unfolding bench newFits runFrom SameCalls SameAnswers padded payloadOf sameKey numbersFit startFits resultLength front swept find chosen permitted pass tally ranked earliest stored startSplit completeSplit launching.launch delivering.deliver splitNamed splitFrom keyNamed keyFrom kindOf asked requestOf configuredAs requested within hasSpace notSilent fitting served step asks openAfter isOpen stores lastStored forAfter lastFor deliveredFor
 wrong-payload claim =
     let calls : List ℕ → List Call = λ x. configure ∷ in-to 7 ∷ in-to 6 ∷ Launch 64 ∷ Deliver 3 [] ∷ complete 7 1 ∷ out-5 x ∷ Launch 64 ∷ [] in
     let answers =
@@ -123,7 +126,7 @@ first-of true n l e = refl
 first-of false n l e = absurd (false≢true e)
 
 given : (p : Call → Bool) (c : Call) → p c ≡ true → isOther c ≡ true → ¬ (MarkHidden (ruled (givenTo p)))
-unfolding bench newFits runFrom SameCalls SameAnswers padded payloadOf sameKey numbersFit startFits resultLength front swept find chosen permitted pass tally ranked earliest stored startSplit completeSplit launching.launch delivering.deliver splitNamed splitFrom keyNamed keyFrom kindOf asked requestOf configuredAs requested within roomy heard fitting served step openAfter isOpen stores lastStored forAfter lastFor deliveredFor
+unfolding bench newFits runFrom SameCalls SameAnswers padded payloadOf sameKey numbersFit startFits resultLength front swept find chosen permitted pass tally ranked earliest stored startSplit completeSplit launching.launch delivering.deliver splitNamed splitFrom keyNamed keyFrom kindOf asked requestOf configuredAs requested within hasSpace notSilent fitting served step openAfter isOpen stores lastStored forAfter lastFor deliveredFor
 given p c e o claim =
     let calls : List ℕ → List Call = λ x. configure ∷ out-5 x ∷ c ∷ [] in
     let answers =
@@ -133,7 +136,7 @@ given p c e o claim =
     omega (arith, z)
 
 memory-shown : (f : Field) (put : ℕ → Answer → Answer) → Puts f put → ¬ (MarkHidden (memoryShows put))
-unfolding bench newFits runFrom SameCalls SameAnswers padded payloadOf sameKey numbersFit startFits resultLength front swept find chosen permitted pass tally ranked earliest stored startSplit completeSplit launching.launch delivering.deliver splitNamed splitFrom keyNamed keyFrom kindOf asked requestOf configuredAs requested within roomy heard fitting served step asks openAfter isOpen stores lastStored forAfter lastFor deliveredFor
+unfolding bench newFits runFrom SameCalls SameAnswers padded payloadOf sameKey numbersFit startFits resultLength front swept find chosen permitted pass tally ranked earliest stored startSplit completeSplit launching.launch delivering.deliver splitNamed splitFrom keyNamed keyFrom kindOf asked requestOf configuredAs requested within hasSpace notSilent fitting served step asks openAfter isOpen stores lastStored forAfter lastFor deliveredFor
 memory-shown f put is claim =
     let over : ℕ → Memory = λ b. record { numbers = bench; byte = b } in
     let answers = claim key-out (over 1) (over 2) (Tick ∷ []) (Tick ∷ []) refl (same _, tt) in
@@ -146,14 +149,14 @@ first-pid [] = 0
 first-pid (d ∷ ds) = d .pid
 
 other-pid : ¬ (DataExplained (altered otherPid))
-unfolding first-pid bench newFits runFrom AllExplained padded payloadOf sameKey numbersFit startFits resultLength front swept find chosen permitted pass tally ranked earliest stored startSplit completeSplit launching.launch delivering.deliver splitNamed splitFrom keyNamed keyFrom kindOf asked requestOf configuredAs requested within roomy heard fitting served step asks openAfter isOpen stores lastStored forAfter lastFor deliveredFor
+unfolding first-pid bench newFits runFrom AllExplained padded payloadOf sameKey numbersFit startFits resultLength front swept find chosen permitted pass tally ranked earliest stored startSplit completeSplit launching.launch delivering.deliver splitNamed splitFrom keyNamed keyFrom kindOf asked requestOf configuredAs requested within hasSpace notSilent fitting served step asks openAfter isOpen stores lastStored forAfter lastFor deliveredFor
 other-pid claim =
     let z : _≡_ {A = ℕ} 3 11 =
     ap first-pid (claim bench (configure ∷ in-to 5 ∷ Launch 64 ∷ Deliver 3 (9 ∷ []) ∷ complete 5 1 ∷ []) .1 .1 .1 .1 .0 refl) in
     omega (arith, z)
 
 second-result : ¬ (DataExplained (ruled secondResult))
-unfolding bench newFits runFrom AllExplained padded payloadOf sameKey numbersFit startFits resultLength front swept find chosen permitted pass tally ranked earliest stored startSplit completeSplit launching.launch delivering.deliver splitNamed splitFrom keyNamed keyFrom kindOf asked requestOf configuredAs requested within roomy heard fitting served step asks openAfter isOpen stores lastStored forAfter lastFor deliveredFor
+unfolding bench newFits runFrom AllExplained padded payloadOf sameKey numbersFit startFits resultLength front swept find chosen permitted pass tally ranked earliest stored startSplit completeSplit launching.launch delivering.deliver splitNamed splitFrom keyNamed keyFrom kindOf asked requestOf configuredAs requested within hasSpace notSilent fitting served step asks openAfter isOpen stores lastStored forAfter lastFor deliveredFor
 second-result claim =
     let z : _≡_ {A = ℕ} 2 1 =
     ap (length {A = Delivered})

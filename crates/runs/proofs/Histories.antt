@@ -11,10 +11,11 @@ use lib.Dec.{eqb}
 use Rattle.buffer.specs.declared.Lane.{Lane}
 use Rattle.buffer.specs.declared.Key.{Key}
 use Rattle.buffer.specs.declared.DeviceResult.{DeviceResult}
-use Rattle.buffer.specs.Key.{sameLane, sameKey}
+use Rattle.buffer.specs.Same.{sameKey}
+use Rattle.buffer.specs.Key.{sameLane}
 use Rattle.buffer.proofs.Keys.{same-true, same-eq, same-ne, key?}
 use Rattle.hub.specs.Call.{Answer}
-use Rattle.runs.specs.History.{Event, History, Asks, nothing, starts, completes, launches, delivers, clears, resets, empties, asks, answerKey, isDone, isResult, openAfter, isOpen, stores, lastStored, For, forAfter, lastFor, isAt, isFor, dataOf, deliveredFor}
+use Rattle.runs.specs.History.{Event, History, Asks, nothing, starts, completes, launches, delivers, clears, resets, empties, asks, answerKey, isDone, givesResult, openAfter, isOpen, stores, lastStored, For, forAfter, lastFor, isAt, isFor, dataOf, deliveredFor}
 use Rattle.runs.specs.Tally.{answersIt, isAnsweredAt}
 
 -- ---- the place of a stored start-split is in the history
@@ -271,9 +272,9 @@ module _ (h : History) (e : Event) (k : Key) where
   module _ (q : asks (e .call) ≡ completes k) where
     pub keeps-complete : Keeps h e (Else k)
     unfolding openAfter stores
-    keeps-complete = keeps-by h e (Else k) (λ l n. rw (q, same-ne k l n, and-false (isResult (e .answer)))) (λ l n. rw q)
+    keeps-complete = keeps-by h e (Else k) (λ l n. rw (q, same-ne k l n, and-false (givesResult (e .answer)))) (λ l n. rw q)
 
-    pub complete-closes : isResult (e .answer) ≡ true → isOpen (e ∷ h) k ≡ false
+    pub complete-closes : givesResult (e .answer) ≡ true → isOpen (e ∷ h) k ≡ false
     unfolding isOpen openAfter
     complete-closes r = rw (q, same-eq k k refl, r)
 
@@ -284,7 +285,7 @@ module _ (h : History) (e : Event) (k : Key) where
     -- closed stays closed
     pub complete-closed : (l : Key) → isOpen h l ≡ false → isOpen (e ∷ h) l ≡ false
     unfolding isOpen openAfter
-    complete-closed l o = rw (q, o, and-false (not (isResult (e .answer) && sameKey k l)))
+    complete-closed l o = rw (q, o, and-false (not (givesResult (e .answer) && sameKey k l)))
 
     pub complete-for : lastFor (e ∷ h) ≡ lastFor h
     unfolding lastFor forAfter
@@ -376,6 +377,6 @@ unfolding isAnsweredAt
 stays-answered h e s p = rw p (or-true (answersIt (asks (e .call)) (e .answer) h s))
 
 -- by a complete-split answered 1 or 9 under the key that it was last stored under
-pub now-answered : (h : History) (e : Event) (k : Key) (s : ℕ) → asks (e .call) ≡ completes k → isResult (e .answer) ≡ true → lastStored h k ≡ some s → isAnsweredAt (e ∷ h) s ≡ true
+pub now-answered : (h : History) (e : Event) (k : Key) (s : ℕ) → asks (e .call) ≡ completes k → givesResult (e .answer) ≡ true → lastStored h k ≡ some s → isAnsweredAt (e ∷ h) s ≡ true
 unfolding isAnsweredAt answersIt
 now-answered h e k s q r l = rw (q, r, l, eq-eqb s s refl)

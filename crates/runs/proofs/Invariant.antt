@@ -31,23 +31,23 @@ use Rattle.translator.specs.ResetLane.{withoutLane, lowWithoutLane}
 use Rattle.translator.specs.Answers.{resultPid}
 use Rattle.translator.specs.Valid.{Apart}
 use Rattle.translator.proofs.At.{inside, at-same, at-other, at-cases, at-ranked, at-without-lane, holds-reranked}
-use Rattle.runs.specs.History.{Event, History, starts, completes, launches, delivers, clears, resets, asks, answerKey, isDone, isResult, isOpen, lastStored, For, lastFor, isAt, isFor, Delivered, deliveredFor}
+use Rattle.runs.specs.History.{Event, History, starts, completes, launches, delivers, clears, resets, asks, answerKey, isDone, givesResult, isOpen, lastStored, For, lastFor, isAt, isFor, Delivered, deliveredFor}
 use Rattle.runs.specs.Tally.{isAnsweredAt}
 use Rattle.runs.proofs.Histories.{fresh, fresh-for, one-key, Keeps, Any, Else, Silent, not-for-it, keeps-start, start-opens, start-stores, start-for, start-data, keeps-repeat, keeps-complete, complete-closes, complete-stores, complete-closed, complete-for, complete-data, keeps-clear, clear-closes, keeps-closed, clear-for, clear-data, keeps-launch, launch-data, launch-for, keeps-deliver, stays-answered, now-answered, Other, keeps-reset, reset-closes, reset-stores, reset-for, reset-data}
 
 -- the data that a buffer has from the low side
-abbrev pub gotten : Slot → List ℕ → List Delivered
-gotten Empty l = []
-gotten (Pending s p) l = []
-gotten (Ready s r) l = cond (isData r) (record { pid = resultPid r; bytes = l } ∷ []) []
-gotten (Old s r) l = cond (isData r) (record { pid = resultPid r; bytes = l } ∷ []) []
+abbrev pub heldData : Slot → List ℕ → List Delivered
+heldData Empty l = []
+heldData (Pending s p) l = []
+heldData (Ready s r) l = cond (isData r) (record { pid = resultPid r; bytes = l } ∷ []) []
+heldData (Old s r) l = cond (isData r) (record { pid = resultPid r; bytes = l } ∷ []) []
 
 -- a buffer that holds the key k: the key is open if it is pending or ready, and its data are those delivered for what was last stored
 pub record Good (h : History) (k : Key) (b : Buffer) : Type 0 where
   pub opened : isOpen h k ≡ isActive (b .slot)
   pub place : ℕ
   pub placed : lastStored h k ≡ some place
-  pub got : deliveredFor h place ≡ gotten (b .slot) (content (b .payload))
+  pub got : deliveredFor h place ≡ heldData (b .slot) (content (b .payload))
   -- what is old was answered
   pub aged : isActive (b .slot) ≡ false → isAnsweredAt h place ≡ true
 
@@ -182,11 +182,11 @@ free-reranked bs (Pending s p) = refl
 free-reranked bs (Ready s r) = refl
 free-reranked bs (Old s r) = refl
 
-gotten-reranked : (bs : List Buffer) (s : Slot) (l : List ℕ) → gotten (reranked bs s) l ≡ gotten s l
-gotten-reranked bs Empty l = refl
-gotten-reranked bs (Pending s p) l = refl
-gotten-reranked bs (Ready s r) l = refl
-gotten-reranked bs (Old s r) l = refl
+held-data-reranked : (bs : List Buffer) (s : Slot) (l : List ℕ) → heldData (reranked bs s) l ≡ heldData s l
+held-data-reranked bs Empty l = refl
+held-data-reranked bs (Pending s p) l = refl
+held-data-reranked bs (Ready s r) l = refl
+held-data-reranked bs (Old s r) l = refl
 
 runs-reranked : (bs : List Buffer) (h : History) (s : Slot) → RunsFor h s → RunsFor h (reranked bs s)
 runs-reranked bs h Empty w = w
@@ -214,7 +214,7 @@ inv-ranked {h} bs low inv =
           opened = g .opened ∙ sym (active-reranked bs (at bs i .slot));
           place = g .place;
           placed = g .placed;
-          got = g .got ∙ sym (gotten-reranked bs (at bs i .slot) (content (at bs i .payload)));
+          got = g .got ∙ sym (held-data-reranked bs (at bs i .slot) (content (at bs i .payload)));
           aged = λ o. g .aged (sym (active-reranked bs (at bs i .slot)) ∙ o);
         }
 
@@ -299,7 +299,7 @@ module _ (h : History) (e : Event) (bs : List Buffer) (low : LowSide) (inv : Inv
           w
 
   -- a complete-split: the ready buffer i is old now
-  pub aged-kept : (k : Key) (i : ℕ) (s : StartSplit) (r : DeviceResult) → asks (e .call) ≡ completes k → isResult (e .answer) ≡ true → i < length bs
+  pub aged-kept : (k : Key) (i : ℕ) (s : StartSplit) (r : DeviceResult) → asks (e .call) ≡ completes k → givesResult (e .answer) ≡ true → i < length bs
       → at bs i .slot ≡ Ready s r → key.keyOf s ≡ k → Apart (holds k) bs
       → Inv (e ∷ h) (set bs i (record { slot = Old s r; payload = at bs i .payload })) low
   aged-kept k i s r q res here is under apart =
@@ -336,7 +336,7 @@ module _ (h : History) (e : Event) (bs : List Buffer) (low : LowSide) (inv : Inv
             opened = complete-closes h e k q res;
             place = g .place;
             placed = complete-stores h e k q k ∙ g .placed;
-            got = data-same (g .place) ∙ g .got ∙ ap (λ (z : Slot). gotten z (content (at bs i .payload))) is;
+            got = data-same (g .place) ∙ g .got ∙ ap (λ (z : Slot). heldData z (content (at bs i .payload))) is;
             aged = λ _. now-answered h e k (g .place) q res (g .placed);
           })
 

@@ -58,7 +58,7 @@ use Rattle.hub.specs.Rules.{completedBy, launchAnswer, launchedBy}
 use Rattle.runs.specs.History.{Event, History, Asks, nothing, starts, completes, launches, delivers, clears, resets, empties, keyOf, asks, lastStored, deliveredTo}
 use Rattle.runs.specs.Demand3.{Explained}
 use Rattle.runs.proofs.Histories.{silent-nothing, silent-refused, Refused, empty-closes}
-use Rattle.runs.proofs.Invariant.{gotten, Good, Inv, LowOk, Unheld, quiet, held-ranked, inv-ranked, free-ranked, into-kept, aged-kept, again-kept, launch-kept, delivered-kept, thrown-kept, clear-kept, closed-kept, repeat-kept, reset-kept, empty-kept}
+use Rattle.runs.proofs.Invariant.{heldData, Good, Inv, LowOk, Unheld, quiet, held-ranked, inv-ranked, free-ranked, into-kept, aged-kept, again-kept, launch-kept, delivered-kept, thrown-kept, clear-kept, closed-kept, repeat-kept, reset-kept, empty-kept}
 
 abbrev pub ev : Call → Answer → Event
 ev c a = record { call = c; answer = a }
@@ -155,7 +155,7 @@ module _ (h : History) (t : Translator) (tied : Tied h t) where
 
   -- the data that a buffer under the key k holds are those delivered for what was last stored under k
   result-said : (c : Call) (k : Key) (i : ℕ) (r : DeviceResult) → asks c ≡ completes k → holds k (at (t .buffers) i .slot) ≡ true
-      → ((l : List ℕ) → gotten (at (t .buffers) i .slot) l ≡ cond (isData r) (record { pid = resultPid r; bytes = l } ∷ []) [])
+      → ((l : List ℕ) → heldData (at (t .buffers) i .slot) l ≡ cond (isData r) (record { pid = resultPid r; bytes = l } ∷ []) [])
       → Explained (asks c) (pidAnswer (resultNumber r) (resultPid r) (content (given r (at (t .buffers) i .payload)))) h
   result-said c k i r q hd is =
       subst (λ (x : Asks). Explained x (pidAnswer (resultNumber r) (resultPid r) (content (given r p))) h) (sym q) (go (isData r) refl)
@@ -187,14 +187,14 @@ module _ (h : History) (t : Translator) (tied : Tied h t) where
   complete-by hub c k n q r (Pending s p) e v = refused-kept c (plainAnswer 4) (record { not-0 = refl; not-1 = refl; not-9 = refl })
   complete-by hub c k n q r (Ready s x) e v = (
     record { valid = v; inv = aged-kept h (ev c a) (t .buffers) (t .low) (tied .inv) k (n .0) s x q (is-result x) (r .inside) e (same-true (key.keyOf s) k (ap (holds k) (sym e) ∙ r .passes)) (tied .valid .keys k) },
-    result-said c k (n .0) x q (r .passes) (λ l. ap (λ (y : Slot). gotten y l) e),
+    result-said c k (n .0) x q (r .passes) (λ l. ap (λ (y : Slot). heldData y l) e),
   )
     where
       a : Answer
       a = pidAnswer (resultNumber x) (resultPid x) (content (given x (at (t .buffers) (n .0) .payload)))
   complete-by hub c k n q r (Old s x) e v = (
     record { valid = v; inv = again-kept h (ev c a) (t .buffers) (t .low) (tied .inv) k (n .0) q (r .passes) (ap isActive e) },
-    result-said c k (n .0) x q (r .passes) (λ l. ap (λ (y : Slot). gotten y l) e),
+    result-said c k (n .0) x q (r .passes) (λ l. ap (λ (y : Slot). heldData y l) e),
   )
     where
       a : Answer

@@ -9,12 +9,14 @@ use lib.ListN.{getD}
 use Rattle.payload.specs.Payload.{padded, payloadOf}
 use Rattle.buffer.specs.declared.Lane.the-variants.{Zero, One}
 use Rattle.buffer.specs.declared.Direction.the-variants as direction
-use Rattle.buffer.specs.Key.{sameKey}
+use Rattle.buffer.specs.Same.{sameKey}
 use Rattle.buffer.specs.Lengths.{numbersFit, startFits, resultLength}
 use Rattle.ports.specs.Sweep.{front, swept}
-use Rattle.translator.specs.Search.{find, chosen, pass}
+use Rattle.translator.specs.Order.{pass}
+use Rattle.translator.specs.Search.{find, chosen}
 use Rattle.translator.specs.Limit.{permitted}
-use Rattle.translator.specs.Order.{tally, ranked, earliest}
+use Rattle.translator.specs.Translator.{tally}
+use Rattle.translator.specs.Order.{ranked, earliest}
 use Rattle.translator.specs.StartSplit.{stored, startSplit}
 use Rattle.translator.specs.CompleteSplit.{completeSplit}
 use Rattle.translator.specs.Launch as launching
@@ -27,7 +29,8 @@ use Rattle.request.specs.Request.{checked as asked, requestOf}
 use Rattle.hub.specs.Hub.{newFits, configuredAs}
 use Rattle.hub.specs.Call.{Call, Control, Start, Launch, Deliver}
 use Rattle.hub.specs.Requests.{requested}
-use Rattle.hub.specs.Step.{within, roomy, heard, fitting, served, step}
+use Rattle.hub.specs.Checks.{within, hasSpace, notSilent, fitting}
+use Rattle.hub.specs.Step.{served, step}
 use Rattle.runs.specs.History.{keyOf, asks, openAfter, isOpen, stores, lastStored, forAfter, lastFor}
 use Rattle.runs.specs.Order.{callAt}
 use Rattle.runs.specs.Machine.{newHubOf, rules, runFrom, afterFrom}
@@ -49,7 +52,7 @@ reset-one = Control 1 (0x23 ∷ 0x09 ∷ 0 ∷ 0 ∷ 1 ∷ 0 ∷ 0 ∷ 0 ∷ [])
 
 -- lane 1's data answers lane 0
 without-lanes : ¬ (LaneHidden (altered withoutLanes))
-unfolding bench newFits runFrom SameCalls SameAnswers padded payloadOf sameKey numbersFit startFits resultLength front swept find chosen permitted pass tally ranked earliest stored startSplit completeSplit launching.launch delivering.deliver clearBuffer splitNamed splitFrom keyNamed keyFrom kindOf asked requestOf configuredAs requested within roomy heard fitting served asks openAfter isOpen stores lastStored forAfter lastFor
+unfolding bench newFits runFrom SameCalls SameAnswers padded payloadOf sameKey numbersFit startFits resultLength front swept find chosen permitted pass tally ranked earliest stored startSplit completeSplit launching.launch delivering.deliver clearBuffer splitNamed splitFrom keyNamed keyFrom kindOf asked requestOf configuredAs requested within hasSpace notSilent fitting served asks openAfter isOpen stores lastStored forAfter lastFor
 without-lanes claim =
     let calls : List ℕ → List Call = λ x. configure ∷ one-5 ∷ Launch 64 ∷ Deliver 3 x ∷ complete 5 1 ∷ [] in
     let answers =
@@ -60,17 +63,17 @@ without-lanes claim =
 
 -- one stored by lane 0, neither answered nor emptied, and nothing pending
 both-emptied : ¬ (TallyHolds (altered bothEmptied) activeBuffers)
-unfolding bench newFits runFrom padded payloadOf sameKey numbersFit startFits resultLength front swept find chosen permitted pass tally ranked earliest stored startSplit completeSplit launching.launch delivering.deliver clearBuffer splitNamed splitFrom keyNamed keyFrom kindOf asked requestOf configuredAs requested within roomy heard fitting served asks openAfter isOpen stores lastStored afterFrom past callAt storesIt answersIt emptiesIt isStoredAt isAnsweredAt isEmptiedAt countTo tallyOf
+unfolding bench newFits runFrom padded payloadOf sameKey numbersFit startFits resultLength front swept find chosen permitted pass tally ranked earliest stored startSplit completeSplit launching.launch delivering.deliver clearBuffer splitNamed splitFrom keyNamed keyFrom kindOf asked requestOf configuredAs requested within hasSpace notSilent fitting served asks openAfter isOpen stores lastStored afterFrom past callAt storesIt answersIt emptiesIt isStoredAt isAnsweredAt isEmptiedAt countTo tallyOf
 both-emptied claim = let z : _≡_ {A = ℕ} 1 0 = claim bench (configure ∷ in-to 5 ∷ reset-one ∷ []) in omega (arith, z)
 
 -- lane 0 holds all three
 no-limit : ¬ (LaneShare (altered (startingBy noLimit)))
-unfolding bench newFits runFrom padded payloadOf sameKey numbersFit startFits resultLength front swept find chosen permitted pass tally ranked earliest stored startSplit completeSplit launching.launch delivering.deliver clearBuffer splitNamed splitFrom keyNamed keyFrom kindOf asked requestOf configuredAs requested within roomy heard fitting served asks openAfter isOpen stores lastStored past callAt storesIt answersIt emptiesIt isStoredAt isAnsweredAt isEmptiedAt countTo
+unfolding bench newFits runFrom padded payloadOf sameKey numbersFit startFits resultLength front swept find chosen permitted pass tally ranked earliest stored startSplit completeSplit launching.launch delivering.deliver clearBuffer splitNamed splitFrom keyNamed keyFrom kindOf asked requestOf configuredAs requested within hasSpace notSilent fitting served asks openAfter isOpen stores lastStored past callAt storesIt answersIt emptiesIt isStoredAt isAnsweredAt isEmptiedAt countTo
 no-limit claim = let z : 3 < 3 = claim .few Zero bench (configure ∷ in-to 5 ∷ in-to 6 ∷ in-to 7 ∷ []) in absurd (omega (arith, z))
 
 -- lane 0 has two old buffers and none pending or ready, and is answered 3
 old-count : ¬ (LaneShare (altered (startingBy oldCount)))
-unfolding bench newFits runFrom AllShared padded payloadOf sameKey numbersFit startFits resultLength front swept find chosen permitted pass tally ranked earliest stored startSplit completeSplit launching.launch delivering.deliver clearBuffer splitNamed splitFrom keyNamed keyFrom kindOf asked requestOf configuredAs requested within roomy heard fitting served asks openAfter isOpen stores lastStored past callAt storesIt answersIt emptiesIt isStoredAt isAnsweredAt isEmptiedAt countTo
+unfolding bench newFits runFrom AllShared padded payloadOf sameKey numbersFit startFits resultLength front swept find chosen permitted pass tally ranked earliest stored startSplit completeSplit launching.launch delivering.deliver clearBuffer splitNamed splitFrom keyNamed keyFrom kindOf asked requestOf configuredAs requested within hasSpace notSilent fitting served asks openAfter isOpen stores lastStored past callAt storesIt answersIt emptiesIt isStoredAt isAnsweredAt isEmptiedAt countTo
 old-count claim =
     claim .served bench
     (configure ∷ in-to 5 ∷ in-to 6 ∷ Launch 64 ∷ Deliver 3 [] ∷ Launch 64 ∷ Deliver 3 [] ∷ complete 5 1 ∷ complete 6 1 ∷ in-to 7 ∷ [])
@@ -78,7 +81,7 @@ old-count claim =
 
 -- lane 0 has (5,1) old, (6,1) and (7,1) pending, and stores (5,1) again: it holds all three
 own-old-passes : ¬ (LaneShare (altered (startingBy ownOldPasses)))
-unfolding bench newFits runFrom padded payloadOf sameKey numbersFit startFits resultLength front swept find chosen permitted pass tally ranked earliest stored startSplit completeSplit resetLane launching.launch delivering.deliver clearBuffer splitNamed splitFrom keyNamed keyFrom kindOf asked requestOf configuredAs requested within roomy heard fitting served asks openAfter isOpen stores lastStored past callAt storesIt answersIt emptiesIt isStoredAt isAnsweredAt isEmptiedAt countTo
+unfolding bench newFits runFrom padded payloadOf sameKey numbersFit startFits resultLength front swept find chosen permitted pass tally ranked earliest stored startSplit completeSplit resetLane launching.launch delivering.deliver clearBuffer splitNamed splitFrom keyNamed keyFrom kindOf asked requestOf configuredAs requested within hasSpace notSilent fitting served asks openAfter isOpen stores lastStored past callAt storesIt answersIt emptiesIt isStoredAt isAnsweredAt isEmptiedAt countTo
 own-old-passes claim =
     let z : 3 < 3 =
     claim .few Zero bench (configure ∷ one-5 ∷ in-to 5 ∷ in-to 6 ∷ reset-one ∷ Launch 64 ∷ Deliver 3 [] ∷ complete 5 1 ∷ in-to 7 ∷ in-to 5 ∷ []) in
@@ -86,7 +89,7 @@ own-old-passes claim =
 
 -- a repeat at the limit is answered 3
 limit-first : ¬ (Refusals (stepBy (startingBy limitFirst)))
-unfolding bench newFits padded payloadOf sameKey numbersFit startFits resultLength front swept find chosen permitted pass tally ranked earliest stored startSplit completeSplit launching.launch delivering.deliver clearBuffer splitNamed splitFrom keyNamed keyFrom kindOf asked requestOf configuredAs requested within roomy heard fitting served step afterFrom
+unfolding bench newFits padded payloadOf sameKey numbersFit startFits resultLength front swept find chosen permitted pass tally ranked earliest stored startSplit completeSplit launching.launch delivering.deliver clearBuffer splitNamed splitFrom keyNamed keyFrom kindOf asked requestOf configuredAs requested within hasSpace notSilent fitting served step afterFrom
 limit-first claim =
     let before : List Call = configure ∷ in-to 5 ∷ in-to 6 ∷ [] in
     true≢false (claim .exactly nak (afterFrom rules (newHubOf bench) before) (in-to 5) (reached bench before) .0 refl .applies .0 0 refl)

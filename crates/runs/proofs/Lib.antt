@@ -5,9 +5,9 @@ pub mod Steps
 pub mod Hiding
 pub mod HidingHub
 pub mod Theorems
-pub mod Line
+pub mod Acceptance
 pub mod Occupying
-pub mod LineSteps
+pub mod AcceptanceSteps
 pub mod Reaching
 pub mod Reporting
 pub mod Counting

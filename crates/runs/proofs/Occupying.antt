@@ -60,7 +60,8 @@ use Rattle.hub.specs.Hub.{withPorts, withTranslator, configuredAs, resetHub, ti
 use Rattle.hub.specs.Call.{Call, Control, Poll, Start, Complete, Launch, Deliver, Event as Line′, Tick, BusReset, Answer, Outcome, plainAnswer, done, refuse, gives}
 use Rattle.hub.specs.Requests.{keyed, byRequest, servedAlways, requested}
 use Rattle.hub.specs.Rules.{polled, completedBy, launchAnswer, launchedAs}
-use Rattle.hub.specs.Step.{within, roomy, heard, fitting, served, firstRefusal, step}
+use Rattle.hub.specs.Checks.{within, hasSpace, notSilent, fitting, firstRefusal}
+use Rattle.hub.specs.Step.{served, step}
 use Rattle.hub.proofs.Order.{by-checks}
 use Rattle.hub.proofs.Valid.{completed-next}
 use Rattle.runs.specs.History.{History, Asks, nothing, starts, completes, launches, delivers, clears, resets, empties, requestAsks, asks}
@@ -272,7 +273,7 @@ module _ (h : History) (hub : Hub) (side : SideOf h hub) where
   occupies room a e on = record { told = rw e; unconfigured = λ u. absurd (true≢false (sym on ∙ u)) }
 
   launch-side : (room : ℕ) → SideBy (Launch room) (step hub (Launch room)) × EightIfOccupied (step hub (Launch room) .answer) h
-  unfolding step within roomy heard fitting served launching.launch
+  unfolding step within hasSpace notSilent fitting served launching.launch
   launch-side room = go (leb 64 room) (hub .configured) refl (hub .translator .low) refl
     where
       t : Translator

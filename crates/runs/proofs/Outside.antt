@@ -23,7 +23,7 @@ use Rattle.numbers.specs.Claims.{Naming}
 use Rattle.numbers.proofs.Laws.{numbers-claims}
 use Rattle.hub.specs.declared.Hub.{Hub}
 use Rattle.hub.specs.Call.{Call, Control, Poll, Start, Complete, Launch, Deliver, Event, Tick, BusReset}
-use Rattle.hub.specs.Step.{within, roomy}
+use Rattle.hub.specs.Checks.{within, hasSpace}
 use Rattle.hub.proofs.Tells.{Tells, tested, passes, both-tell, regrouped, not-over, is-number, below-tells}
 use Rattle.runs.specs.Refusals.{UnknownLane, OverPayload, PayloadOnIn, WrongSetup, PayloadOnHandshake, NoSuchPort, Outside, Short}
 
@@ -119,8 +119,8 @@ outside-tells h BusReset = passes
 room-tells : (room : ℕ) → Tells (leb 64 room) (room < 64)
 room-tells room = not-over 64 room
 
-pub short-tells : (c : Call) → Tells (roomy c) (Short c)
-unfolding roomy
+pub short-tells : (c : Call) → Tells (hasSpace c) (Short c)
+unfolding hasSpace
 short-tells (Control z s room) = room-tells room
 short-tells (Poll z room) = room-tells room
 short-tells (Start z p t f g a e l) = passes

@@ -17,7 +17,8 @@ use Rattle.hub.specs.Call.{Control, Poll, Complete, Event, Tick}
 use Rattle.hub.specs.Requests.{requested}
 use Rattle.hub.specs.Valid.{ValidHub}
 use Rattle.hub.proofs.Valid.{new-valid}
-use Rattle.hub.specs.Step.{within, roomy, heard, fitting, served, step}
+use Rattle.hub.specs.Checks.{within, hasSpace, notSilent, fitting}
+use Rattle.hub.specs.Step.{served, step}
 use Rattle.runs.specs.Refusals.{outside, short, silent, misplaced, stall, nak, UnknownDirection, Due, Exactly, Unchanged, Numbered}
 use Rattle.runs.specs.RefusalMistakes.{hastyStep, closedStep, leakyStep, muteStep, dryStep, looseStep, laxStep, wordyStep, strayStep, RefusalMistakesShutOut}
 use Rattle.runs.proofs.Refusing.{number-refuses, refusals}
@@ -40,7 +41,7 @@ getDescriptor = 0xA0 ∷ 0x06 ∷ 0x00 ∷ 0x29 ∷ 0x00 ∷ 0x00 ∷ 0x09 ∷ 0
 
 -- a poll without reply space: 7 comes first
 hasty : ¬ (Exactly hastyStep)
-unfolding hastyStep within roomy heard
+unfolding hastyStep within hasSpace notSilent
 hasty claim = claim silent bench (Poll 0 0) bench-valid .0 refl .none-before short (omega arith) (omega arith)
 
 -- a tick is never refused
@@ -50,17 +51,17 @@ closed claim = claim nak bench Tick bench-valid .0 refl .applies
 
 -- SetConfiguration 2 leaves the hub unconfigured
 leaky : ¬ (Unchanged leakyStep)
-unfolding leakyStep step within roomy heard fitting served requested requestOf checked kindOf configuredAs
+unfolding leakyStep step within hasSpace notSilent fitting served requested requestOf checked kindOf configuredAs
 leaky claim = true≢false (ap (λ (h : Hub). h .configured) (claim stall bench (Control 0 wrongValue 64) bench-valid refl .0))
 
 -- an attach at port 1
 mute : ¬ (Exactly muteStep)
-unfolding muteStep step within roomy heard fitting served
+unfolding muteStep step within hasSpace notSilent fitting served
 mute claim = claim silent bench (Event 0 1) bench-valid .0 refl .applies
 
 -- the descriptor is given unconfigured
 dry : ¬ (Exactly dryStep)
-unfolding dryStep step within roomy heard fitting served requested requestOf checked kindOf
+unfolding dryStep step within hasSpace notSilent fitting served requested requestOf checked kindOf
 dry claim = claim nak bench (Control 0 getDescriptor 64) bench-valid .0 refl .applies
 
 unknown-7 : UnknownDirection 7
@@ -69,12 +70,12 @@ unknown-7 direction.In = λ e. omega (arith, e)
 
 -- a complete-split with direction 7: 6 comes first
 loose : ¬ (Exactly looseStep)
-unfolding looseStep step within roomy heard keyNamed
+unfolding looseStep step within hasSpace notSilent keyNamed
 loose claim = claim silent bench (Complete 0 5 1 7 64) bench-valid .0 refl .none-before outside (omega arith) (inr (inr (inr unknown-7)))
 
 -- an attach on an unconfigured hub: 8 is due
 lax : ¬ (Exactly laxStep)
-unfolding laxStep step within roomy heard fitting
+unfolding laxStep step within hasSpace notSilent fitting
 lax claim =
     let due : Due misplaced bench (Event 0 1) = refusals .exactly misplaced bench (Event 0 1) bench-valid .0 refl in
     let z : _≡_ {A = ℕ} 0 8 = claim misplaced bench (Event 0 1) bench-valid .1 due in
@@ -82,7 +83,7 @@ lax claim =
 
 -- SetConfiguration 2 is STALL
 wordy : ¬ (Unchanged wordyStep)
-unfolding wordyStep step within roomy heard fitting served requested requestOf checked kindOf
+unfolding wordyStep step within hasSpace notSilent fitting served requested requestOf checked kindOf
 wordy claim =
     let z : _≡_ {A = ℕ} 1 0 = ap (length {A = ℕ}) (claim stall bench (Control 0 wrongValue 64) bench-valid refl .1) in
     omega (arith, z)

@@ -9,7 +9,7 @@ use borrow.Author.Tests.{eqb-true, eqb-false, leb-true, ltb-true, ltb-false}
 use lib.Dec.{eqb, leb, ltb}
 use lib.ListN.{length, take}
 use Rattle.port.specs.Events.{lineEvent}
-use Rattle.port.specs.Claims.{NamedIn}
+use Rattle.port.specs.Words.{NamedIn}
 use Rattle.port.proofs.Claimed.{port-claims}
 use Rattle.ports.specs.Ports.{portAt}
 use Rattle.ports.specs.Bitmap.{bitmapOf}
@@ -63,7 +63,8 @@ use Rattle.hub.specs.Requests.{byRequest, servedAlways, requested}
 use Rattle.hub.specs.Rules.{polled, startedAs, completedAs, launchedBy}
 use Rattle.hub.specs.Valid.{ValidHub}
 use Rattle.hub.specs.Step as rule
-use Rattle.hub.specs.Step.{within, roomy, heard, fitting, firstRefusal, step}
+use Rattle.hub.specs.Checks.{within, hasSpace, notSilent, fitting, firstRefusal}
+use Rattle.hub.specs.Step.{step}
 use Rattle.runs.specs.Refusals.{Refusal, outside, short, silent, misplaced, stall, nak, nyet, numberOf, rank, Silent, Occupied, Unsuited, Untaken, Misplaced, IsWrong, Stalled, NothingToGive, NotYet, Applies, Due, Serves, Refusals}
 use Rattle.hub.proofs.Tells.{Tells, not-told, passes, both-tell}
 use Rattle.runs.proofs.Outside.{outside-tells, short-tells}
@@ -197,8 +198,8 @@ never x = x
 configured-tells : (h : Hub) → Tells (h .configured) (h .configured ≡ false)
 configured-tells h = (λ e. e, λ e. e)
 
-silent-tells : (h : Hub) (c : Call) → Tells (heard h c) (Silent h c)
-unfolding heard
+silent-tells : (h : Hub) (c : Call) → Tells (notSilent h c) (Silent h c)
+unfolding notSilent
 silent-tells h (Control z s room) = passes
 silent-tells h (Poll z room) = configured-tells h
 silent-tells h (Start z p t f g a e l) = configured-tells h
@@ -490,18 +491,18 @@ module _ (h : Hub) (valid : ValidHub h) where
 
   sorted : (c : Call) → Verdict h c (step h c)
   unfolding step
-  sorted c = go (within h c) refl (roomy c) refl (heard h c) refl (fitting h c) refl
+  sorted c = go (within h c) refl (hasSpace c) refl (notSilent h c) refl (fitting h c) refl
     where
       six : within h c ≡ true → Past h c 1
       six w = past h c outside (past-none h c) (not-told (outside-tells h c) w)
 
-      seven : within h c ≡ true → roomy c ≡ true → Past h c 2
+      seven : within h c ≡ true → hasSpace c ≡ true → Past h c 2
       seven w r = past h c short (six w) (not-told (short-tells c) r)
 
-      five : within h c ≡ true → roomy c ≡ true → heard h c ≡ true → Past h c 3
+      five : within h c ≡ true → hasSpace c ≡ true → notSilent h c ≡ true → Past h c 3
       five w r s = past h c silent (seven w r) (not-told (silent-tells h c) s)
 
-      go : (w : Bool) → within h c ≡ w → (r : Bool) → roomy c ≡ r → (s : Bool) → heard h c ≡ s → (f : Bool) → fitting h c ≡ f
+      go : (w : Bool) → within h c ≡ w → (r : Bool) → hasSpace c ≡ r → (s : Bool) → notSilent h c ≡ s → (f : Bool) → fitting h c ≡ f
           → Verdict h c (cond (eqb (firstRefusal w r s f) 0) (rule.served h c) (refuse (firstRefusal w r s f) h))
       go false w r x s y f z = is-due h c outside (past-none h c) (outside-tells h c .0 w) refl
       go true w false r s y f z = is-due h c short (six w) (short-tells c .0 r) refl

@@ -9,12 +9,14 @@ use mathlib.Core.Logic.{_⊎_, inl, inr, ⊎-elim}
 use lib.ListN.{length, getD}
 use Rattle.payload.specs.Payload.{padded, payloadOf}
 use Rattle.buffer.specs.declared.Direction.the-variants as direction
-use Rattle.buffer.specs.Key.{sameKey}
+use Rattle.buffer.specs.Same.{sameKey}
 use Rattle.buffer.specs.Lengths.{numbersFit, startFits, resultLength}
 use Rattle.ports.specs.Sweep.{front, swept}
-use Rattle.translator.specs.Search.{find, chosen, pass}
+use Rattle.translator.specs.Order.{pass}
+use Rattle.translator.specs.Search.{find, chosen}
 use Rattle.translator.specs.Limit.{permitted}
-use Rattle.translator.specs.Order.{tally, ranked, earliest}
+use Rattle.translator.specs.Translator.{tally}
+use Rattle.translator.specs.Order.{ranked, earliest}
 use Rattle.translator.specs.StartSplit.{stored, startSplit}
 use Rattle.translator.specs.CompleteSplit.{completeSplit}
 use Rattle.translator.specs.Launch as launching
@@ -32,7 +34,8 @@ use Rattle.hub.specs.Hub.{newFits, configuredAs}
 use Rattle.hub.specs.Call.{Call, Control, Poll, Start, Complete, Launch, Deliver, Event as Line, Tick, BusReset, Answer}
 use Rattle.hub.specs.declared.Hub.{Hub}
 use Rattle.hub.specs.Requests.{byRequest, requested}
-use Rattle.hub.specs.Step.{within, roomy, heard, fitting, served}
+use Rattle.hub.specs.Checks.{within, hasSpace, notSilent, fitting}
+use Rattle.hub.specs.Step.{served}
 use Rattle.runs.specs.History.{History, Delivered, keyOf, asks, openAfter, isOpen, stores, lastStored, forAfter, lastFor, deliveredFor}
 use Rattle.runs.specs.Order.{pendingAfter, isPendingAt, callAt, Earliest, AllOrdered, LaunchOrder}
 use Rattle.runs.specs.Machine.{Numbers, runFrom}
@@ -60,7 +63,7 @@ abbrev pub clear-5 : Call
 clear-5 = Control 0 (0x23 ∷ 0x08 ∷ 0x51 ∷ 0x80 ∷ 1 ∷ 0 ∷ 0 ∷ 0 ∷ []) 64
 
 late : ¬ (DataExplained (altered lateResult))
-unfolding bench newFits runFrom AllExplained padded payloadOf sameKey numbersFit startFits resultLength front swept find chosen permitted pass tally ranked earliest stored startSplit completeSplit launching.launch delivering.deliver clearBuffer splitNamed splitFrom keyNamed keyFrom kindOf asked requestOf configuredAs requested within roomy heard fitting served asks openAfter isOpen stores lastStored forAfter lastFor deliveredFor
+unfolding bench newFits runFrom AllExplained padded payloadOf sameKey numbersFit startFits resultLength front swept find chosen permitted pass tally ranked earliest stored startSplit completeSplit launching.launch delivering.deliver clearBuffer splitNamed splitFrom keyNamed keyFrom kindOf asked requestOf configuredAs requested within hasSpace notSilent fitting served asks openAfter isOpen stores lastStored forAfter lastFor deliveredFor
 late claim =
     let z : _≡_ {A = ℕ} 0 1 =
     ap (length {A = Delivered})
@@ -69,7 +72,7 @@ late claim =
 
 -- the same run with other bytes for device 5: they show in the answer for device 6
 late-shows : ¬ (MarkHidden (altered lateResult))
-unfolding bench newFits runFrom SameCalls SameAnswers padded payloadOf sameKey numbersFit startFits resultLength front swept find chosen permitted pass tally ranked earliest stored startSplit completeSplit launching.launch delivering.deliver clearBuffer splitNamed splitFrom keyNamed keyFrom kindOf asked requestOf configuredAs requested within roomy heard fitting served asks openAfter isOpen stores lastStored forAfter lastFor deliveredFor
+unfolding bench newFits runFrom SameCalls SameAnswers padded payloadOf sameKey numbersFit startFits resultLength front swept find chosen permitted pass tally ranked earliest stored startSplit completeSplit launching.launch delivering.deliver clearBuffer splitNamed splitFrom keyNamed keyFrom kindOf asked requestOf configuredAs requested within hasSpace notSilent fitting served asks openAfter isOpen stores lastStored forAfter lastFor deliveredFor
 late-shows claim =
     let calls : List ℕ → List Call = λ x. configure ∷ in-to 5 ∷ Launch 64 ∷ clear-5 ∷ in-to 6 ∷ Deliver 3 x ∷ complete 6 1 ∷ [] in
     let answers =
@@ -81,7 +84,7 @@ late-shows claim =
 
 -- an OUT complete-split is answered with what an IN was delivered
 direction-lost : ¬ (DataExplained (altered withoutDirection))
-unfolding bench newFits runFrom AllExplained padded payloadOf sameKey numbersFit startFits resultLength front swept find chosen permitted pass tally ranked earliest stored startSplit completeSplit launching.launch delivering.deliver clearBuffer splitNamed splitFrom keyNamed keyFrom kindOf asked requestOf configuredAs requested within roomy heard fitting served asks openAfter isOpen stores lastStored forAfter lastFor deliveredFor
+unfolding bench newFits runFrom AllExplained padded payloadOf sameKey numbersFit startFits resultLength front swept find chosen permitted pass tally ranked earliest stored startSplit completeSplit launching.launch delivering.deliver clearBuffer splitNamed splitFrom keyNamed keyFrom kindOf asked requestOf configuredAs requested within hasSpace notSilent fitting served asks openAfter isOpen stores lastStored forAfter lastFor deliveredFor
 direction-lost claim =
     let z : _≡_ {A = ℕ} 0 1 =
     ap (length {A = Delivered}) (claim bench (configure ∷ in-to 5 ∷ Launch 64 ∷ Deliver 3 (9 ∷ []) ∷ complete 5 0 ∷ []) .1 .1 .1 .1 .0 refl) in
@@ -93,7 +96,7 @@ size [] = 0
 size (d ∷ ds) = length (d .bytes)
 
 tail-shown : ¬ (DataExplained (altered longerTail))
-unfolding size bench newFits runFrom AllExplained padded payloadOf sameKey numbersFit startFits resultLength front swept find chosen permitted pass tally ranked earliest stored startSplit completeSplit launching.launch delivering.deliver clearBuffer splitNamed splitFrom keyNamed keyFrom kindOf asked requestOf configuredAs requested within roomy heard fitting served asks openAfter isOpen stores lastStored forAfter lastFor deliveredFor
+unfolding size bench newFits runFrom AllExplained padded payloadOf sameKey numbersFit startFits resultLength front swept find chosen permitted pass tally ranked earliest stored startSplit completeSplit launching.launch delivering.deliver clearBuffer splitNamed splitFrom keyNamed keyFrom kindOf asked requestOf configuredAs requested within hasSpace notSilent fitting served asks openAfter isOpen stores lastStored forAfter lastFor deliveredFor
 tail-shown claim =
     let z : _≡_ {A = ℕ} 1 64 = ap size (claim bench (configure ∷ in-to 5 ∷ Launch 64 ∷ Deliver 3 (9 ∷ []) ∷ complete 5 1 ∷ []) .1 .1 .1 .1 .0 refl) in
     omega (arith, z)
@@ -126,7 +129,7 @@ early {a} {h} e l = go (e .place) l (ap device (e .gives))
 
 -- device 6 was stored before device 7, and 7 is launched
 twice-placed : ¬ (LaunchOrder (altered placesTwice))
-unfolding device bench newFits runFrom AllOrdered pendingAfter isPendingAt callAt padded payloadOf sameKey numbersFit startFits resultLength front swept find chosen permitted pass tally ranked earliest stored startSplit completeSplit launching.launch delivering.deliver clearBuffer splitNamed splitFrom keyNamed keyFrom kindOf asked requestOf configuredAs requested within roomy heard fitting served asks openAfter isOpen stores lastStored forAfter lastFor deliveredFor
+unfolding device bench newFits runFrom AllOrdered pendingAfter isPendingAt callAt padded payloadOf sameKey numbersFit startFits resultLength front swept find chosen permitted pass tally ranked earliest stored startSplit completeSplit launching.launch delivering.deliver clearBuffer splitNamed splitFrom keyNamed keyFrom kindOf asked requestOf configuredAs requested within hasSpace notSilent fitting served asks openAfter isOpen stores lastStored forAfter lastFor deliveredFor
 twice-placed claim =
     let e = claim bench (configure ∷ in-to 5 ∷ in-to 6 ∷ Launch 64 ∷ Deliver 3 (9 ∷ []) ∷ complete 5 1 ∷ in-to 7 ∷ Launch 64 ∷ []) .1 .1 .1 .1 .1 .1 .1 .0 .0 refl in
     let f = early e (e .earliest 2 refl) in
@@ -134,7 +137,7 @@ twice-placed claim =
 
 -- device 5 was stored before device 6, and 6 is launched
 latest-launched : ¬ (LaunchOrder (altered latestFirst))
-unfolding device bench newFits runFrom AllOrdered pendingAfter isPendingAt callAt padded payloadOf sameKey numbersFit startFits resultLength front swept find chosen permitted pass tally ranked earliest stored startSplit completeSplit launching.launch delivering.deliver clearBuffer splitNamed splitFrom keyNamed keyFrom kindOf asked requestOf configuredAs requested within roomy heard fitting served asks openAfter isOpen stores lastStored forAfter lastFor deliveredFor
+unfolding device bench newFits runFrom AllOrdered pendingAfter isPendingAt callAt padded payloadOf sameKey numbersFit startFits resultLength front swept find chosen permitted pass tally ranked earliest stored startSplit completeSplit launching.launch delivering.deliver clearBuffer splitNamed splitFrom keyNamed keyFrom kindOf asked requestOf configuredAs requested within hasSpace notSilent fitting served asks openAfter isOpen stores lastStored forAfter lastFor deliveredFor
 latest-launched claim =
     let e = claim bench (configure ∷ in-to 5 ∷ Control 0 (0x80 ∷ 0x08 ∷ 0 ∷ 0 ∷ 0 ∷ 0 ∷ 1 ∷ 0 ∷ []) 64 ∷ in-to 6 ∷ Launch 64 ∷ []) .1 .1 .1 .1 .0 .0 refl in
     let f = early e (omega (arith, e .earliest 1 refl)) in

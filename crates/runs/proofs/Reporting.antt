@@ -27,7 +27,7 @@ use Rattle.ports.specs.declared.Sweep.the-variants as sweep
 use Rattle.ports.specs.Ports.{portAt, withPort}
 use Rattle.ports.specs.Sweep.{sweptBy, swept}
 use Rattle.ports.specs.Bitmap.{bitmapOf}
-use Rattle.ports.specs.Claims.{Among}
+use Rattle.ports.specs.Ports.{Among}
 use Rattle.ports.proofs.Laws.{ports-claims}
 use Rattle.translator.specs.CompleteSplit.{completeSplit}
 use Rattle.translator.specs.Launch.{launch}
@@ -44,7 +44,8 @@ use Rattle.request.specs.Setup.{setupOf}
 use Rattle.request.specs.Values.{clearableOf}
 use Rattle.request.specs.Table.{kindOf, valueFits}
 use Rattle.request.specs.Request.{meaning, requestOf}
-use Rattle.request.specs.Claims.{clearableNumber, InRange}
+use Rattle.request.specs.Fields.{clearableNumber}
+use Rattle.request.specs.Ranges.{InRange}
 use Rattle.request.proofs.Written.{clearable-back}
 use Rattle.request.proofs.Exact.{checks}
 use Rattle.request.proofs.Claimed.{request-claims}
@@ -54,7 +55,8 @@ use Rattle.hub.specs.Hub.{withPorts, withTranslator, configuredAs, resetHub, ti
 use Rattle.hub.specs.Call.{Call, Control, Poll, Start, Complete, Launch, Deliver, Event as Line, Tick, BusReset, Answer, Outcome, plainAnswer, done, refuse, gives}
 use Rattle.hub.specs.Requests.{byRequest, servedAlways, requested}
 use Rattle.hub.specs.Rules.{polled}
-use Rattle.hub.specs.Step.{within, fitting, served, step}
+use Rattle.hub.specs.Checks.{within, fitting}
+use Rattle.hub.specs.Step.{served, step}
 use Rattle.hub.specs.Valid.{ValidHub}
 use Rattle.hub.proofs.Numbers.{left, fits}
 use Rattle.hub.proofs.Order.{by-checks}

@@ -14,7 +14,8 @@ use Rattle.request.specs.Request.{checked, requestOf}
 use Rattle.hub.specs.Hub.{newFits, configuredAs, tickedHub}
 use Rattle.hub.specs.Call.{Call, Control, Event as Line, Tick}
 use Rattle.hub.specs.Requests.{requested}
-use Rattle.hub.specs.Step.{within, roomy, heard, fitting, served}
+use Rattle.hub.specs.Checks.{within, hasSpace, notSilent, fitting}
+use Rattle.hub.specs.Step.{served}
 use Rattle.runs.specs.History.{Event, History}
 use Rattle.runs.specs.Machine.{runFrom, run}
 use Rattle.runs.specs.ErrorReports.{portAsks, reportedAfter, isReported, Shows, AllShow, ErrorReports}
@@ -50,7 +51,7 @@ refuted : (rule : Port → Input → Port) (cs : List Call) (i : ℕ) → ¬ (Sh
 refuted rule cs i n claim = n (shows-at i [] (run (withEvents rule) bench cs) (claim bench cs))
 
 pub report-mistakes-shut-out : ReportMistakesShutOut
-unfolding bench newFits runFrom ShowsAt front swept portAt withPort kindOf checked requestOf configuredAs tickedHub requested within roomy heard fitting served portAsks reportedAfter isReported
+unfolding bench newFits runFrom ShowsAt front swept portAt withPort kindOf checked requestOf configuredAs tickedHub requested within hasSpace notSilent fitting served portAsks reportedAfter isReported
 report-mistakes-shut-out =
     record {
       -- unplugged while Enabled: the status shows C_PORT_ENABLE

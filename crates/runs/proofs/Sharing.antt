@@ -16,7 +16,8 @@ use Rattle.buffer.specs.Key.{sameLane}
 use Rattle.buffer.specs.Buffer.{isActive, isFree, activeIn}
 use Rattle.translator.specs.declared.Translator.{Translator}
 use Rattle.translator.specs.Translator.{at}
-use Rattle.translator.specs.Order.{bit, tally}
+use Rattle.bools.specs.Bit.{bit}
+use Rattle.translator.specs.Translator.{tally}
 use Rattle.translator.specs.Limit.{heldBy, AtLimit}
 use Rattle.numbers.specs.Named.{laneFrom}
 use Rattle.request.specs.declared.Kind.{Kind}
@@ -40,7 +41,7 @@ use Rattle.translator.proofs.Kept.{all-held}
 use Rattle.runs.proofs.Kept.{ev, Tied}
 use Rattle.runs.proofs.Steps.{step-kept}
 use Rattle.runs.proofs.Theorems.{new-tied}
-use Rattle.runs.proofs.Line.{keyIn}
+use Rattle.runs.proofs.Acceptance.{keyIn}
 use Rattle.runs.proofs.Fates.{stored-lane}
 use Rattle.runs.proofs.Tallied.{waiting-count}
 use Rattle.runs.proofs.Refusing.{refusals}

@@ -30,7 +30,8 @@ use Rattle.hub.specs.Hub.{withPorts, withTranslator, configuredAs, resetHub, ti
 use Rattle.hub.specs.Call.{Call, Control, Poll, Start, Complete, Launch, Deliver, Event as Line, Tick, BusReset, Outcome, plainAnswer, done, refuse, gives}
 use Rattle.hub.specs.Requests.{keyed, byRequest, servedAlways, requested}
 use Rattle.hub.specs.Rules.{polled, completedBy, launchedBy}
-use Rattle.hub.specs.Step.{within, served, step}
+use Rattle.hub.specs.Checks.{within}
+use Rattle.hub.specs.Step.{served, step}
 use Rattle.hub.proofs.Order.{by-checks}
 use Rattle.hub.proofs.Valid.{completed-next, launched-next}
 use Rattle.runs.specs.History.{History, Asks, nothing, starts, completes, clears, resets, empties, keyOf, requestAsks, asks}

@@ -14,7 +14,7 @@ use Rattle.buffer.specs.declared.Key.{Key}
 use Rattle.buffer.specs.declared.Slot.{Slot}
 use Rattle.buffer.specs.declared.Slot.the-variants.{Empty, Pending, Ready, Old}
 use Rattle.buffer.specs.declared.Buffer.{Buffer}
-use Rattle.buffer.specs.Key.{sameKey}
+use Rattle.buffer.specs.Same.{sameKey}
 use Rattle.buffer.specs.Buffer.{isActive, holds}
 use Rattle.buffer.proofs.Keys.{same-refl, same-true}
 use Rattle.translator.specs.declared.Translator.{Translator}
@@ -22,7 +22,8 @@ use Rattle.translator.specs.declared.LowSide.{LowSide}
 use Rattle.translator.specs.declared.Found.{Found}
 use Rattle.translator.specs.declared.Found.the-variants.{Nowhere, At}
 use Rattle.translator.specs.Translator.{at}
-use Rattle.translator.specs.Order.{bit, tally}
+use Rattle.bools.specs.Bit.{bit}
+use Rattle.translator.specs.Translator.{tally}
 use Rattle.translator.specs.Search.{find}
 use Rattle.translator.specs.CompleteSplit.{completeAt, completeSplit}
 use Rattle.translator.proofs.Finding.{FindSays, find-says}
@@ -35,9 +36,10 @@ use Rattle.request.specs.Table.{kindOf}
 use Rattle.hub.specs.declared.Hub.{Hub}
 use Rattle.hub.specs.Call.{Call, Control, Poll, Start, Complete, Launch, Deliver, Event as Line, Tick, BusReset}
 use Rattle.hub.specs.Rules.{completedAs}
-use Rattle.hub.specs.Step.{within, served, step}
+use Rattle.hub.specs.Checks.{within}
+use Rattle.hub.specs.Step.{served, step}
 use Rattle.hub.proofs.Order.{by-checks}
-use Rattle.runs.specs.History.{Event, History, Asks, nothing, starts, completes, launches, delivers, clears, resets, empties, requestAsks, asks, isDone, isResult, isOpen, stores, lastStored, isAt}
+use Rattle.runs.specs.History.{Event, History, Asks, nothing, starts, completes, launches, delivers, clears, resets, empties, requestAsks, asks, isDone, givesResult, isOpen, stores, lastStored, isAt}
 use Rattle.runs.specs.Order.{callAt, isFrom}
 use Rattle.runs.specs.Machine.{rules, newHubOf, runFrom, afterFrom}
 use Rattle.runs.specs.Tally.{storesIt, answersIt, emptiesIt, isStoredAt, isAnsweredAt, isEmptiedAt, waitsAt, countTo, tallyOf, activeBuffers, past, TallyHolds}
@@ -46,7 +48,7 @@ use Rattle.runs.proofs.Invariant.{Good, Inv, Unheld}
 use Rattle.runs.proofs.Kept.{ev, Tied}
 use Rattle.runs.proofs.Steps.{complete-key, step-kept}
 use Rattle.runs.proofs.Theorems.{new-tied}
-use Rattle.runs.proofs.Line.{keyIn, holds-key}
+use Rattle.runs.proofs.Acceptance.{keyIn, holds-key}
 use Rattle.runs.proofs.Counting.{count-sum, Matched, matched}
 use Rattle.runs.proofs.Fates.{is-at, waiting, waits, open-waits, Opener, opener}
 
@@ -188,10 +190,10 @@ answered-stored (e ∷ h) s p = stays-stored h e s (go (asks (e .call)) p (answe
     go : (x : Asks) → (answersIt x (e .answer) h s || isAnsweredAt h s) ≡ true → (isAnsweredAt h s ≡ true → isStoredAt h s ≡ true) → isStoredAt h s ≡ true
     go nothing p ih = ih p
     go (starts k) p ih = ih p
-    go (completes k) p ih = by (isResult (e .answer) && isAt (lastStored h k) s) refl p
+    go (completes k) p ih = by (givesResult (e .answer) && isAt (lastStored h k) s) refl p
       where
-        by : (t : Bool) → (isResult (e .answer) && isAt (lastStored h k) s) ≡ t → (t || isAnsweredAt h s) ≡ true → isStoredAt h s ≡ true
-        by true q p = stored-is h k s (is-at (lastStored h k) s (and-eq-true-iff (isResult (e .answer)) (isAt (lastStored h k) s) .0 q .1))
+        by : (t : Bool) → (givesResult (e .answer) && isAt (lastStored h k) s) ≡ t → (t || isAnsweredAt h s) ≡ true → isStoredAt h s ≡ true
+        by true q p = stored-is h k s (is-at (lastStored h k) s (and-eq-true-iff (givesResult (e .answer)) (isAt (lastStored h k) s) .0 q .1))
         by false q p = ih p
     go launches p ih = ih p
     go (delivers r y) p ih = ih p
@@ -241,10 +243,10 @@ completes-inj k l e = cc
 abbrev Held : Hub → Key → Type 0
 Held hub k = (i : ℕ) × (holds k (at (hub .translator .buffers) i .slot) ≡ true)
 
-complete-held : (hub : Hub) (c : Call) (k : Key) → asks c ≡ completes k → isResult (step hub c .answer) ≡ true → Held hub k
+complete-held : (hub : Hub) (c : Call) (k : Key) → asks c ≡ completes k → givesResult (step hub c .answer) ≡ true → Held hub k
 unfolding asks served within completeSplit
 complete-held hub (Complete z a e d room) k q r =
-    by-checks hub (Complete z a e d room) (λ o. isResult (o .answer) ≡ true → Held hub k) (λ r. absurd (false≢true r)) (λ r. absurd (false≢true r))
+    by-checks hub (Complete z a e d room) (λ o. givesResult (o .answer) ≡ true → Held hub k) (λ r. absurd (false≢true r)) (λ r. absurd (false≢true r))
     (λ r. absurd (false≢true r)) (λ r. absurd (false≢true r))
     (λ n f g.
     subst (Held hub) (sym (complete-key z a e d n) ∙ completes-inj _ k q)
@@ -253,7 +255,7 @@ complete-held hub (Complete z a e d room) k q r =
     r
   where
     found : (f : Found) → FindSays (holds (keyFrom z a e d)) (hub .translator .count) (hub .translator .buffers) f
-        → isResult (completedAs hub (completeAt (hub .translator) f) .answer) ≡ true → Held hub (keyFrom z a e d)
+        → givesResult (completedAs hub (completeAt (hub .translator) f) .answer) ≡ true → Held hub (keyFrom z a e d)
     found Nowhere s r = absurd (false≢true r)
     found (At n) s r = (n .0, s .passes)
 complete-held hub (Control z s room) k q r = absurd (false≢true (sym (request-else (laneFrom z) (kindOf (setupOf s .requesttype) (setupOf s .code)) (setupOf s .value)) ∙ ap isComplete q))
@@ -296,12 +298,12 @@ never-step h hub tied never c s p = go (asks c) refl p
     go (clears k) q p = again (isDone (step hub c .answer) && isAt (lastStored h k) s) (isStoredAt h s) (isAnsweredAt h s) p p
     go (resets z) q p = again (isDone (step hub c .answer) && isFrom z (callAt h s)) (isStoredAt h s) (isAnsweredAt h s) p p
     go empties q p = again (isDone (step hub c .answer)) (isStoredAt h s) (isAnsweredAt h s) p p
-    go (completes k) q p = by (isResult (step hub c .answer) && isAt (lastStored h k) s) refl p
+    go (completes k) q p = by (givesResult (step hub c .answer) && isAt (lastStored h k) s) refl p
       where
-        by : (t : Bool) → (isResult (step hub c .answer) && isAt (lastStored h k) s) ≡ t → (t || isAnsweredAt h s) ≡ true → isEmptiedAt h s ≡ false
+        by : (t : Bool) → (givesResult (step hub c .answer) && isAt (lastStored h k) s) ≡ t → (t || isAnsweredAt h s) ≡ true → isEmptiedAt h s ≡ false
         by false e p = never s p
         by true e p =
-            let two = and-eq-true-iff (isResult (step hub c .answer)) (isAt (lastStored h k) s) .0 e in
+            let two = and-eq-true-iff (givesResult (step hub c .answer)) (isAt (lastStored h k) s) .0 e in
             let f = complete-held hub c k q (two .0) in
             held k (is-at (lastStored h k) s (two .1)) (f .0) (f .1)
 

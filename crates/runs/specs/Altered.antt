@@ -1,5 +1,5 @@
--- The hub's rules over any rules of the translator and of the ports. A reader must believe: nothing; `OwnServed` says that with the hub's own
--- they are the rules, so that a hub with one of them replaced differs from the rules there and nowhere else.
+-- Internal, pinned by `OwnServed`, at its end: the hub's rules over any rules of the translator and of the ports. With the hub's own they are
+-- the rules, so that a hub with one of them replaced differs from the rules there and nowhere else.
 use mathlib.Core.Path.{_≡_}
 use mathlib.Core.Bool.{Bool, false, cond, _||_}
 use mathlib.Core.List.{List}
@@ -35,7 +35,8 @@ use Rattle.hub.specs.Hub.{withTranslator}
 use Rattle.hub.specs.Call.{Call, Control, Poll, Start, Complete, Launch, Deliver, Event, Tick, BusReset, Answer, Outcome, done, refuse, gives}
 use Rattle.hub.specs.Requests.{setFeature, keyed, byRequest, servedAlways}
 use Rattle.hub.specs.Rules.{polled, startedAs, completedAs, launchedAs, eventAt}
-use Rattle.hub.specs.Step.{within, roomy, heard, fitting, served, firstRefusal, step}
+use Rattle.hub.specs.Checks.{within, hasSpace, notSilent, fitting, firstRefusal}
+use Rattle.hub.specs.Step.{served, step}
 use Rattle.runs.specs.Machine.{Machine, ruled}
 
 pub record TranslatorRules : Type 0 where
@@ -129,7 +130,7 @@ OwnServed = (h : Hub) (c : Call) → servedBy own ownPorts h c ≡ served h c
 -- the checks in their order, then the rule f
 abbrev pub checked : (Hub → Call → Outcome) → Hub → Call → Outcome
 checked f h c =
-    let n = firstRefusal (within h c) (roomy c) (heard h c) (fitting h c) in
+    let n = firstRefusal (within h c) (hasSpace c) (notSilent h c) (fitting h c) in
     cond (eqb n 0) (f h c) (refuse n h)
 
 abbrev pub stepBy : TranslatorRules → Hub → Call → Outcome

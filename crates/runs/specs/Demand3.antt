@@ -7,7 +7,8 @@ use mathlib.Core.Bool.{Bool, true}
 use lib.ListN.{length}
 use Rattle.buffer.specs.declared.Lane.{Lane}
 use Rattle.buffer.specs.declared.Key.{Key}
-use Rattle.buffer.specs.Key.{sameLane, sameKey, directionOf}
+use Rattle.buffer.specs.Same.{sameKey}
+use Rattle.buffer.specs.Key.{sameLane, directionOf}
 use Rattle.numbers.specs.Named.{laneFrom, pidFrom}
 use Rattle.hub.specs.Call.{Call, Start, Deliver, Answer}
 use Rattle.runs.specs.History.{Event, History, Asks, nothing, starts, completes, launches, delivers, clears, resets, empties, keyOf, asks, answerKey, lastStored, For, lastFor, deliveredTo}

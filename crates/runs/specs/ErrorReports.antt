@@ -9,13 +9,13 @@ use lib.Dec.{eqb}
 use lib.ListN.{getD}
 use Rattle.port.specs.declared.ChangeBit.the-variants.{Enable}
 use Rattle.port.specs.declared.LineEvent.the-variants.{PortError}
-use Rattle.port.specs.Claims.{bitsOf}
+use Rattle.port.specs.Words.{bitsOf}
 use Rattle.numbers.specs.Written.{eventNumber}
 use Rattle.request.specs.declared.Kind.{Kind}
 use Rattle.request.specs.declared.Kind.the-variants as kind
 use Rattle.request.specs.Setup.{setupOf}
 use Rattle.request.specs.Table.{kindOf}
-use Rattle.request.specs.Claims.{changeNumber}
+use Rattle.request.specs.Fields.{changeNumber}
 use Rattle.hub.specs.Call.{Call, Control, Poll, Start, Complete, Launch, Deliver, Event as LineEvent, Tick, BusReset, Answer}
 use Rattle.runs.specs.History.{Event, History, isDone}
 use Rattle.runs.specs.Machine.{Machine, run}

@@ -31,7 +31,8 @@ use Rattle.numbers.specs.Named.{resultFrom}
 use Rattle.hub.specs.declared.Hub.{Hub}
 use Rattle.hub.specs.Call.{Call, Control, Poll, Start, Complete, Launch, Deliver, Event, Tick, BusReset, Answer, Outcome, refuse}
 use Rattle.hub.specs.Rules.{deliveredAs}
-use Rattle.hub.specs.Step.{within, heard, firstRefusal, step}
+use Rattle.hub.specs.Checks.{within, notSilent, firstRefusal}
+use Rattle.hub.specs.Step.{step}
 use Rattle.runs.specs.Machine.{Numbers, Machine, newHubOf, ruled}
 use Rattle.runs.specs.Altered.{TranslatorRules, withComplete, withLaunch, altered, answering, withBytes, Field, fieldOf}
 use Rattle.runs.specs.Demand3.{MarkHidden, DataExplained}
@@ -147,7 +148,7 @@ secondResult h (Complete z a e d room) = step h (Complete z a e d room)
 secondResult h (Launch room) = step h (Launch room)
 -- the checks 6 and 5; 8 comes from the rule
 secondResult h (Deliver r l) =
-    let n = firstRefusal (within h (Deliver r l)) true (heard h (Deliver r l)) true in
+    let n = firstRefusal (within h (Deliver r l)) true (notSilent h (Deliver r l)) true in
     cond (eqb n 0) (deliveredAs h (deliverAgain (h .translator) (resultFrom r) l (h .translator .low))) (refuse n h)
 secondResult h (Event e n) = step h (Event e n)
 secondResult h Tick = step h Tick

@@ -11,7 +11,8 @@ use Rattle.buffer.specs.declared.Lane.{Lane}
 use Rattle.buffer.specs.declared.Direction.{Direction}
 use Rattle.buffer.specs.declared.Key.{Key}
 use Rattle.buffer.specs.declared.DeviceResult.{DeviceResult}
-use Rattle.buffer.specs.Key.{keyWith, sameLane, sameKey, directionOf}
+use Rattle.buffer.specs.Same.{sameKey}
+use Rattle.buffer.specs.Key.{keyWith, sameLane, directionOf}
 use Rattle.buffer.specs.Lengths.{isData}
 use Rattle.translator.specs.Answers.{resultPid}
 use Rattle.numbers.specs.Named.{laneFrom, pidFrom, resultFrom, directionFrom}
@@ -80,15 +81,15 @@ answerKey a = keyOf (laneFrom (a .lane)) (a .address) (a .endpoint) (directionFr
 abbrev pub isDone : Answer → Bool
 isDone a = eqb (a .number) 0
 
-abbrev pub isResult : Answer → Bool
-isResult a = eqb (a .number) 1 || eqb (a .number) 9
+abbrev pub givesResult : Answer → Bool
+givesResult a = eqb (a .number) 1 || eqb (a .number) 9
 
 -- A start-split answered 0 opens its key. A complete-split answered 1 or 9 and ClearTTBuffer answered 0 close their key; ResetTT
 -- answered 0 closes its lane's keys; bus reset, and SetConfiguration answered 0, close all.
 unfoldable pub openAfter : Asks → Answer → Key → Bool → Bool
 openAfter nothing a k o = o
 openAfter (starts k′) a k o = (isDone a && sameKey k′ k) || o
-openAfter (completes k′) a k o = not (isResult a && sameKey k′ k) && o
+openAfter (completes k′) a k o = not (givesResult a && sameKey k′ k) && o
 openAfter launches a k o = o
 openAfter (delivers r l) a k o = o
 openAfter (clears k′) a k o = not (isDone a && sameKey k′ k) && o

@@ -8,11 +8,12 @@ use lib.ListN.{take}
 use Rattle.buffer.specs.declared.Key.{Key}
 use Rattle.buffer.specs.declared.Buffer.{Buffer}
 use Rattle.buffer.specs.Key as key
+use Rattle.buffer.specs.Same.{sameDirection}
 use Rattle.buffer.specs.Buffer.{inLane}
 use Rattle.translator.specs.declared.Choice.{Choice}
 use Rattle.translator.specs.declared.Choice.the-variants.{NoRoom, LimitReached, Held, Reused, Took}
 use Rattle.translator.specs.Translator.{emptied}
-use Rattle.translator.specs.Order.{tally}
+use Rattle.translator.specs.Translator.{tally}
 use Rattle.translator.specs.Search.{find, chosen}
 use Rattle.translator.specs.Limit.{heldBy, mayStore, limited, permitted}
 use Rattle.translator.specs.StartSplit.{startBy}
@@ -26,7 +27,7 @@ use Rattle.runs.specs.Refusals.{Refusals}
 -- ---- a complete-split is matched without its lane
 
 abbrev pub samePipe : Key → Key → Bool
-samePipe a b = eqb (a .address .0) (b .address .0) && (eqb (a .endpoint) (b .endpoint) && key.sameDirection (a .direction) (b .direction))
+samePipe a b = eqb (a .address .0) (b .address .0) && (eqb (a .endpoint) (b .endpoint) && sameDirection (a .direction) (b .direction))
 
 abbrev pub withoutLanes : TranslatorRules
 withoutLanes = withComplete (λ t k. completeAt t (find (holdsKey (samePipe k)) (take (t .count) (t .buffers))))

@@ -23,7 +23,8 @@ use Rattle.translator.specs.declared.Earliest.the-variants.{NonePending, Stored
 use Rattle.translator.specs.declared.StartAnswer.the-variants.{Chosen}
 use Rattle.translator.specs.declared.Started.{Started}
 use Rattle.translator.specs.declared.Completed.{Completed}
-use Rattle.translator.specs.Search.{find, pass}
+use Rattle.translator.specs.Order.{pass}
+use Rattle.translator.specs.Search.{find}
 use Rattle.translator.specs.Limit.{permitted}
 use Rattle.translator.specs.Order.{waiting}
 use Rattle.translator.specs.CompleteSplit.{completeAt, completeSplit}

@@ -8,13 +8,14 @@ use Rattle.numbers.specs.Written.{directionNumber}
 use Rattle.hub.specs.declared.Hub.{Hub}
 use Rattle.hub.specs.Hub.{configuredAs}
 use Rattle.hub.specs.Call.{Call, Control, Poll, Start, Complete, Launch, Deliver, Event, Tick, BusReset, Outcome, plainAnswer, pidAnswer, done, refuse}
-use Rattle.hub.specs.Step.{within, roomy, heard, fitting, served, unless, step}
+use Rattle.hub.specs.Checks.{within, hasSpace, notSilent, fitting, unless}
+use Rattle.hub.specs.Step.{served, step}
 use Rattle.runs.specs.Refusals.{Exactly, Unchanged, Numbered}
 
 -- 5 before 7
 unfoldable pub hastyStep : Hub → Call → Outcome
 hastyStep h c =
-    let n = unless (within h c) 6 (unless (heard h c) 5 (unless (roomy c) 7 (unless (fitting h c) 8 0))) in
+    let n = unless (within h c) 6 (unless (notSilent h c) 5 (unless (hasSpace c) 7 (unless (fitting h c) 8 0))) in
     cond (eqb n 0) (served h c) (refuse n h)
 
 -- everything is refused, with NAK

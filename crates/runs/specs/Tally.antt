@@ -8,10 +8,11 @@ use mathlib.Core.Bool.{Bool, false, not, _&&_, _||_}
 use lib.ListN.{length}
 use lib.Dec.{eqb}
 use Rattle.buffer.specs.Buffer.{isActive}
-use Rattle.translator.specs.Order.{bit, tally}
+use Rattle.bools.specs.Bit.{bit}
+use Rattle.translator.specs.Translator.{tally}
 use Rattle.hub.specs.declared.Hub.{Hub}
 use Rattle.hub.specs.Call.{Answer}
-use Rattle.runs.specs.History.{Event, History, Asks, nothing, starts, completes, launches, delivers, clears, resets, empties, asks, isDone, isResult, isOpen, stores, lastStored, isAt}
+use Rattle.runs.specs.History.{Event, History, Asks, nothing, starts, completes, launches, delivers, clears, resets, empties, asks, isDone, givesResult, isOpen, stores, lastStored, isAt}
 use Rattle.runs.specs.Order.{callAt, isFrom}
 use Rattle.runs.specs.Machine.{Machine, run, afterFrom}
 
@@ -32,7 +33,7 @@ storesIt empties a h s = false
 unfoldable pub answersIt : Asks → Answer → History → ℕ → Bool
 answersIt nothing a h s = false
 answersIt (starts k) a h s = false
-answersIt (completes k) a h s = isResult a && isAt (lastStored h k) s
+answersIt (completes k) a h s = givesResult a && isAt (lastStored h k) s
 answersIt launches a h s = false
 answersIt (delivers r l) a h s = false
 answersIt (clears k) a h s = false

@@ -14,7 +14,8 @@ use Rattle.buffer.specs.declared.Slot.the-variants.{Empty, Pending, Ready, Old}
 use Rattle.buffer.specs.declared.Buffer.{Buffer}
 use Rattle.buffer.specs.Buffer.{vacant, isPending, holds, activeIn}
 use Rattle.translator.specs.Translator.{at}
-use Rattle.translator.specs.Order.{atPlace, reranked, rankedIn, ranked}
+use Rattle.translator.specs.Valid.{atPlace}
+use Rattle.translator.specs.Order.{reranked, rankedIn, ranked}
 use Rattle.translator.specs.ResetLane.{withoutLane}
 use Rattle.translator.specs.Valid.{Apart}
 

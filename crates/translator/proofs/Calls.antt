@@ -41,7 +41,8 @@ use Rattle.translator.specs.Translator.{at}
 use Rattle.translator.specs.Search.{later, find, chosen}
 use Rattle.translator.specs.Limit.{heldBy, mayStore, limited, permitted, AtLimit, NoRepeat}
 use Rattle.translator.specs.ResetLane.{resetLane}
-use Rattle.translator.specs.Order.{atPlace, waiting, before, ranked, earliest}
+use Rattle.translator.specs.Valid.{atPlace}
+use Rattle.translator.specs.Order.{waiting, before, ranked, earliest}
 use Rattle.translator.specs.StartSplit.{stored, startBy, startSplit}
 use Rattle.translator.specs.CompleteSplit.{completed, completeAt, completeSplit}
 use Rattle.translator.specs.Launch.{launched, launchAt, launchBy, launch}
@@ -210,7 +211,7 @@ stored-last =
 -- ---- a launch gives the earliest
 
 -- what a launch that was answered so did
-pub record Gave (t : Translator) (s : StartSplit) (o : Launched) : Type 0 where
+pub record EarliestLaunched (t : Translator) (s : StartSplit) (o : Launched) : Type 0 where
   pub number : BufferNumber
   pub place : ℕ
   pub pending : at (t .buffers) (number .0) .slot ≡ Pending s place
@@ -221,7 +222,7 @@ pub record Gave (t : Translator) (s : StartSplit) (o : Launched) : Type 0 where
 abbrev pub LaunchedAs : Translator → LaunchAnswer → Launched → Type 0
 LaunchedAs t NothingPending o = (j : ℕ) → isPending (at (t .buffers) j .slot) ≡ false
 LaunchedAs t Occupied o = Unit {0}
-LaunchedAs t (Launches s) o = Gave t s o
+LaunchedAs t (Launches s) o = EarliestLaunched t s o
 
 module _ (t : Translator) (v : ValidTranslator t) where
   long : length (take (t .count) (t .buffers)) ≡ t .count
@@ -284,7 +285,7 @@ pub launches-earliest : LaunchesEarliest
 launches-earliest =
     record {
       gives = λ t s v e.
-          let g : Gave t s (launch t) = subst (λ a. LaunchedAs t a (launch t)) e (launched-as t v) in
+          let g : EarliestLaunched t s (launch t) = subst (λ a. LaunchedAs t a (launch t)) e (launched-as t v) in
           record { number = g .number; place = g .place; pending = g .pending; least = g .least; runs = ap (λ (x : Translator). x .low) (g .next); payload = g .payload };
       nothing = λ t v e. subst (λ a. LaunchedAs t a (launch t)) e (launched-as t v);
     }

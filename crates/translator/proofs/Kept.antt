@@ -38,7 +38,10 @@ use Rattle.translator.specs.declared.DeliverAnswer.the-variants as answe
 use Rattle.translator.specs.Translator.{at, newTranslator}
 use Rattle.translator.specs.Search.{find}
 use Rattle.translator.specs.Limit.{heldBy, mayStore, permitted, NoRepeat}
-use Rattle.translator.specs.Order.{tally, bit, atPlace, waiting, before, reranked, rankedIn, ranked, earliest}
+use Rattle.bools.specs.Bit.{bit}
+use Rattle.translator.specs.Translator.{tally}
+use Rattle.translator.specs.Valid.{atPlace}
+use Rattle.translator.specs.Order.{waiting, before, reranked, rankedIn, ranked, earliest}
 use Rattle.translator.specs.StartSplit.{stored, startBy, startSplit}
 use Rattle.translator.specs.CompleteSplit.{completed, completeAt, completeSplit}
 use Rattle.translator.specs.Launch.{launched, launchAt, launchBy, launch}

@@ -12,7 +12,9 @@ use Rattle.buffer.specs.declared.Buffer.{Buffer}
 use Rattle.translator.specs.declared.LowSide.{LowSide}
 use Rattle.translator.specs.declared.Translator.{Translator}
 use Rattle.translator.specs.Slots.{slotsIn, bare}
-use Rattle.translator.specs.Order.{bit, tally, rankedIn, ranked}
+use Rattle.bools.specs.Bit.{bit}
+use Rattle.translator.specs.Translator.{tally}
+use Rattle.translator.specs.Order.{rankedIn, ranked}
 use Rattle.translator.specs.ResetLane.{withoutLane, lowWithoutLane, resetLane}
 use Rattle.translator.proofs.Bare.{rankedIn-bare}
 

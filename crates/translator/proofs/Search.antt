@@ -13,8 +13,10 @@ use Rattle.buffer.specs.declared.Buffer.{Buffer}
 use Rattle.buffer.specs.declared.BufferNumber.{BufferNumber}
 use Rattle.buffer.specs.declared.Standing.{Standing}
 use Rattle.buffer.specs.declared.Standing.the-variants.{Busy, Free, Holds, Reusable}
-use Rattle.buffer.specs.Key.{keyOf, sameLane, sameKey}
-use Rattle.buffer.specs.Buffer.{holds, isActive, isFree, activeIn, standing}
+use Rattle.buffer.specs.Same.{sameKey}
+use Rattle.buffer.specs.Key.{keyOf, sameLane}
+use Rattle.buffer.specs.Standing.{standing}
+use Rattle.buffer.specs.Buffer.{holds, isActive, isFree, activeIn}
 use Rattle.buffer.proofs.Keys.{lane-refl, same-true}
 use Rattle.translator.specs.declared.Found.{Found}
 use Rattle.translator.specs.declared.Found.the-variants.{Nowhere, At}
@@ -23,9 +25,11 @@ use Rattle.translator.specs.declared.Carried.the-variants.{NoneYet, Lowe
 use Rattle.translator.specs.declared.Choice.the-variants.{NoRoom, LimitReached, Held, Reused, Took}
 use Rattle.translator.specs.Translator.{at}
 use Rattle.translator.specs.Slots.{bare}
-use Rattle.translator.specs.Order.{bit, tally}
+use Rattle.bools.specs.Bit.{bit}
+use Rattle.translator.specs.Translator.{tally}
 use Rattle.translator.specs.Limit.{heldBy, mayStore, limited, permitted}
-use Rattle.translator.specs.Search.{later, find, chooseHeld, chosen, pass}
+use Rattle.translator.specs.Order.{pass}
+use Rattle.translator.specs.Search.{later, find, chooseHeld, chosen}
 use Rattle.translator.specs.OnePass.{past, counted, look, isSettled, heldSoFar, carriedBy, choiceOf}
 use Rattle.translator.proofs.Passes.{Ahead}
 

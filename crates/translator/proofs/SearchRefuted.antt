@@ -9,7 +9,8 @@ use Rattle.buffer.specs.declared.BufferNumber.{BufferNumber}
 use Rattle.buffer.specs.declared.DeviceResult.the-variants.{Data0}
 use Rattle.buffer.specs.declared.Slot.{Slot}
 use Rattle.buffer.specs.declared.Slot.the-variants.{Empty, Pending, Old}
-use Rattle.buffer.specs.Key.{keyOf, sameKey}
+use Rattle.buffer.specs.Same.{sameKey}
+use Rattle.buffer.specs.Key.{keyOf}
 use Rattle.buffer.specs.Lengths.{numbersFit, startFits}
 use Rattle.translator.specs.declared.LowSide.the-variants.{Idle}
 use Rattle.translator.specs.declared.Translator.{Translator}
@@ -20,8 +21,9 @@ use Rattle.translator.specs.declared.Choice.the-variants.{NoRoom, LimitR
 use Rattle.translator.specs.declared.StartAnswer.{StartAnswer}
 use Rattle.translator.specs.declared.StartAnswer.the-variants.{Outside, Chosen}
 use Rattle.translator.specs.Slots.{bare}
-use Rattle.translator.specs.Search.{find, chosen, pass}
-use Rattle.translator.specs.Order.{tally}
+use Rattle.translator.specs.Order.{pass}
+use Rattle.translator.specs.Search.{find, chosen}
+use Rattle.translator.specs.Translator.{tally}
 use Rattle.translator.specs.Limit.{permitted}
 use Rattle.translator.specs.StartSplit.{startSplit}
 use Rattle.translator.specs.OnePass.{past, look, OnePass}

@@ -6,6 +6,7 @@ use mathlib.Core.Bool.{Bool, true, false, _&&_}
 use mathlib.Core.List.{List, [], _∷_}
 use lib.Dec.{eqb}
 use lib.ListN.{replicate}
+use Rattle.payload.specs.Bytes.{sameBytes}
 use Rattle.payload.specs.Payload.{content}
 use Rattle.buffer.specs.declared.Lane.{Lane}
 use Rattle.buffer.specs.declared.Lane.the-variants.{Zero}
@@ -132,12 +133,6 @@ lateResult =
 
 abbrev pub table : List Row
 table = payload64 ∷ shortAfterLong ∷ lateResult ∷ []
-
-abbrev pub sameBytes : List ℕ → List ℕ → Bool
-sameBytes [] [] = true
-sameBytes [] (n ∷ ns) = false
-sameBytes (m ∷ ms) [] = false
-sameBytes (m ∷ ms) (n ∷ ns) = eqb m n && sameBytes ms ns
 
 abbrev pub sameSaid : Said → Said → Bool
 sameSaid a b = eqb (a .number) (b .number) && (eqb (a .pid) (b .pid) && (eqb (a .address) (b .address) && (eqb (a .endpoint) (b .endpoint) && sameBytes (a .bytes) (b .bytes))))

@@ -21,7 +21,8 @@ use Rattle.translator.specs.declared.Choice.the-variants.{LimitReached, 
 use Rattle.translator.specs.declared.StartAnswer.the-variants.{Chosen}
 use Rattle.translator.specs.declared.LaunchAnswer.the-variants.{NothingPending, Launches}
 use Rattle.translator.specs.Translator.{at, newTranslator, emptied}
-use Rattle.translator.specs.Order.{atPlace, ranked}
+use Rattle.translator.specs.Valid.{atPlace}
+use Rattle.translator.specs.Order.{ranked}
 use Rattle.translator.specs.Limit.{AtLimit, NoRepeat}
 use Rattle.translator.specs.StartSplit.{startSplit}
 use Rattle.translator.specs.CompleteSplit.{completeSplit}

@@ -16,7 +16,8 @@ use Rattle.buffer.specs.declared.Standing.{Standing}
 use Rattle.buffer.specs.declared.Standing.the-variants.{Busy, Free, Holds, Reusable}
 use Rattle.buffer.specs.Key.{keyOf}
 use Rattle.buffer.specs.Lengths.{startFits}
-use Rattle.buffer.specs.Buffer.{activeIn, standing}
+use Rattle.buffer.specs.Standing.{standing}
+use Rattle.buffer.specs.Buffer.{activeIn}
 use Rattle.buffer.specs.Words.{Holding, OldWith, With, Vacated}
 use Rattle.translator.specs.declared.Translator.{Translator}
 use Rattle.translator.specs.declared.Carried.{Carried}
@@ -25,8 +26,8 @@ use Rattle.translator.specs.declared.Choice.{Choice}
 use Rattle.translator.specs.declared.Choice.the-variants.{NoRoom, LimitReached, Held, Reused, Took}
 use Rattle.translator.specs.declared.StartAnswer.the-variants.{Chosen}
 use Rattle.translator.specs.Slots.{slotsIn, bare}
-use Rattle.translator.specs.Search.{pass}
-use Rattle.translator.specs.Order.{bit}
+use Rattle.translator.specs.Order.{pass}
+use Rattle.bools.specs.Bit.{bit}
 use Rattle.translator.specs.Limit.{heldBy, mayStore, permitted}
 use Rattle.translator.specs.StartSplit.{startSplit}
 use Rattle.translator.specs.TwoSteps.{Buffered, Lowest, None, TwoSteps}

@@ -1,9 +1,10 @@
--- The order of acceptance. A reader must believe: a pending buffer has a place; a lower place was stored earlier. On storing, the
--- pending buffers' places become their ranks, from 0 without gaps, and the new one gets the next, so that places never run out.
-use Prim.Native.Nat.{ℕ, _+_}
+-- Internal, pinned by `LaunchOrder` (crate `runs`), which says which start-split a launch gives: the order of acceptance. A pending buffer has a
+-- place; a lower place was stored earlier. On storing, the pending buffers' places become their ranks, from 0 without gaps, and the new one
+-- gets the next, so that places never run out.
+use Prim.Native.Nat.{ℕ, suc}
 use mathlib.Core.Bool.{Bool, true, false, cond}
 use mathlib.Core.List.{List, [], _∷_, map}
-use lib.Dec.{eqb, ltb}
+use lib.Dec.{ltb}
 use Rattle.buffer.specs.declared.Slot.{Slot}
 use Rattle.buffer.specs.declared.Slot.the-variants.{Empty, Pending, Ready, Old}
 use Rattle.buffer.specs.declared.Buffer.{Buffer}
@@ -11,7 +12,12 @@ use Rattle.buffer.specs.declared.BufferNumber.{BufferNumber}
 use Rattle.buffer.specs.Buffer.{isPending}
 use Rattle.translator.specs.declared.Earliest.{Earliest}
 use Rattle.translator.specs.declared.Earliest.the-variants.{NonePending, Stored}
-use Rattle.translator.specs.Search.{pass}
+use Rattle.translator.specs.Translator.{tally}
+
+-- a pass over the buffers from number n on, with c carried so far: the left fold of f over their slots and numbers
+unfoldable pub pass : {C : Type 0} → (C → Slot → BufferNumber → C) → ℕ → C → List Buffer → C
+pass f n c [] = c
+pass f n c (b ∷ bs) = pass f (suc n) (f c (b .slot) (record { 0 = n })) bs
 
 -- pending, with a place before p
 abbrev pub isBefore : ℕ → Slot → Bool
@@ -19,22 +25,6 @@ isBefore p Empty = false
 isBefore p (Pending s q) = ltb q p
 isBefore p (Ready s r) = false
 isBefore p (Old s r) = false
-
--- pending, at the place p
-abbrev pub atPlace : ℕ → Slot → Bool
-atPlace p Empty = false
-atPlace p (Pending s q) = eqb q p
-atPlace p (Ready s r) = false
-atPlace p (Old s r) = false
-
-abbrev pub bit : Bool → ℕ
-bit true = 1
-bit false = 0
-
--- how many buffers pass a test
-unfoldable pub tally : (Slot → Bool) → List Buffer → ℕ
-tally f [] = 0
-tally f (b ∷ bs) = bit (f (b .slot)) + tally f bs
 
 -- how many are pending: the next place
 abbrev pub waiting : List Buffer → ℕ

@@ -1,12 +1,11 @@
 -- The search of a start-split. A reader must believe `chosen`: the two steps of document 01's rule. The code makes it in one pass (OnePass),
 -- and that this gives the choice is proved.
-use Prim.Native.Nat.{ℕ, suc}
+use Prim.Native.Nat.{suc}
 use mathlib.Core.Bool.{Bool, cond}
 use mathlib.Core.List.{List, [], _∷_}
 use Rattle.buffer.specs.declared.Key.{Key}
 use Rattle.buffer.specs.declared.Slot.{Slot}
 use Rattle.buffer.specs.declared.Buffer.{Buffer}
-use Rattle.buffer.specs.declared.BufferNumber.{BufferNumber}
 use Rattle.buffer.specs.Buffer.{holds, isActive, isFree}
 use Rattle.translator.specs.declared.Found.{Found}
 use Rattle.translator.specs.declared.Found.the-variants.{Nowhere, At}
@@ -36,8 +35,3 @@ chooseHeld bs (At n) = cond (isActive (at bs (n .0) .slot)) (Held n) (Reused n)
 -- what a start-split under the key k does, of the buffers bs, the limit of its lane apart
 unfoldable pub chosen : Key → List Buffer → Choice
 chosen k bs = chooseHeld bs (find (holds k) bs)
-
--- a pass over the buffers from number n on, with c carried so far: the left fold of f over their slots and numbers
-unfoldable pub pass : {C : Type 0} → (C → Slot → BufferNumber → C) → ℕ → C → List Buffer → C
-pass f n c [] = c
-pass f n c (b ∷ bs) = pass f (suc n) (f c (b .slot) (record { 0 = n })) bs

@@ -7,10 +7,11 @@ use Rattle.buffer.specs.declared.Slot.{Slot}
 use Rattle.buffer.specs.declared.BufferNumber.{BufferNumber}
 use Rattle.buffer.specs.declared.Standing.{Standing}
 use Rattle.buffer.specs.declared.Standing.the-variants.{Busy, Free, Holds, Reusable}
-use Rattle.buffer.specs.Buffer.{inLane, activeIn, standing}
+use Rattle.buffer.specs.Standing.{standing}
+use Rattle.buffer.specs.Buffer.{inLane, activeIn}
 use Rattle.translator.specs.declared.Carried.{Carried}
 use Rattle.translator.specs.declared.Carried.the-variants.{NoneYet, LowestFree, OwnOld, Repeat}
-use Rattle.translator.specs.Order.{bit}
+use Rattle.bools.specs.Bit.{bit}
 use Rattle.translator.specs.OnePass.{past, counted, look, Looking, OnePass}
 
 -- `look` with another way past a buffer

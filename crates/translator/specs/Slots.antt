@@ -1,5 +1,6 @@
--- Slots alone. The search of a start-split, the order of acceptance and the choice of a launch look at slots, never at payload bytes:
--- each comes out the same of buffers that have the same slots and no payload, and that is proved.
+-- Internal, pinned by the contracts over slots, which give the rules of buffers: slots alone. The search of a start-split, the order of
+-- acceptance and the choice of a launch look at slots, never at payload bytes: each comes out the same of buffers that have the same slots
+-- and no payload, and that is proved.
 use mathlib.Core.List.{List, map}
 use Rattle.payload.specs.Payload.{noPayload}
 use Rattle.buffer.specs.declared.Slot.{Slot}

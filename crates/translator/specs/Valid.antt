@@ -3,12 +3,14 @@
 -- unless abandoned.
 use Prim.Native.Nat.{ℕ, _≤_, _<_}
 use mathlib.Core.Path.{_≡_}
-use mathlib.Core.Bool.{Bool, true}
+use mathlib.Core.Bool.{Bool, true, false}
 use mathlib.Core.List.{List}
+use lib.Dec.{eqb}
 use lib.ListN.{length}
 use Rattle.buffer.specs.declared.Lane.{Lane}
 use Rattle.buffer.specs.declared.Key.{Key}
 use Rattle.buffer.specs.declared.Slot.{Slot}
+use Rattle.buffer.specs.declared.Slot.the-variants.{Empty, Pending, Ready, Old}
 use Rattle.buffer.specs.declared.Buffer.{Buffer}
 use Rattle.buffer.specs.Buffer.{vacant, holds, isPending}
 use Rattle.buffer.specs.Valid.{Whole}
@@ -16,8 +18,14 @@ use Rattle.translator.specs.declared.LowSide.{LowSide}
 use Rattle.translator.specs.declared.LowSide.the-variants.{Idle, Running, Abandoned}
 use Rattle.translator.specs.declared.Translator.{Translator}
 use Rattle.translator.specs.Translator.{at}
-use Rattle.translator.specs.Order.{atPlace}
 use Rattle.translator.specs.Limit.{heldBy}
+
+-- pending, at the place p
+abbrev pub atPlace : ℕ → Slot → Bool
+atPlace p Empty = false
+atPlace p (Pending s q) = eqb q p
+atPlace p (Ready s r) = false
+atPlace p (Old s r) = false
 
 -- no two buffers pass the test
 abbrev pub Apart : (Slot → Bool) → List Buffer → Type 0

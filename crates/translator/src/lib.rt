@@ -9,7 +9,8 @@ ghost use Rattle.buffer.specs.Buffer.{holds, isPending};
 ghost use Rattle.translator.specs.Limit.{mayStore, permitted};
 ghost use Rattle.translator.specs.OnePass.{past, counted, look, isSettled, heldSoFar, carriedBy, choiceOf, OnePass};
 ghost use Rattle.translator.specs.SearchMistakes.{SearchMistakesShutOut};
-ghost use Rattle.translator.specs.Order.{bit, isBefore, waiting, before, rankedIn, ranked, sooner, earliest};
+ghost use Rattle.bools.specs.Bit.{bit};
+ghost use Rattle.translator.specs.Order.{isBefore, waiting, before, rankedIn, ranked, sooner, earliest};
 ghost use Rattle.translator.specs.StartSplit.{stored, startSplit};
 ghost use Rattle.translator.specs.CompleteSplit.{given, completed, completeSplit};
 ghost use Rattle.translator.specs.Launch.{unlaunched, launched, launch};
@@ -299,17 +300,10 @@ pub fn holder(slots: [Slot; 4], count: BufferCount, key: Key) -> Found
 
 // ---- the order of acceptance
 
-fn bit_of(b: bool) -> u8
-    ensures { λ r. ⌜ r ≡ bit b ⌝ }
-    ensures small { λ r. ⌜ r ≤ 1 ⌝ }
-{
-    if b { 1 } else { 0 }
-}
-
 fn how_many(a: bool, b: bool, c: bool, d: bool) -> u8
     ensures { λ r. ⌜ r ≡ bit a + (bit b + (bit c + bit d)) ⌝ }
 {
-    bit_of(a) + (bit_of(b) + (bit_of(c) + bit_of(d)))
+    bools::bit_of(a) + (bools::bit_of(b) + (bools::bit_of(c) + bools::bit_of(d)))
 }
 
 fn is_waiting(slot: Slot) -> bool

@@ -1,15 +1,17 @@
 -- Concrete reasons. Assumes nothing.
 use mathlib.Core.Path.{refl}
 use Rattle.payload.specs.Payload.{payloadOf}
-use Rattle.buffer.specs.Key.{sameKey}
+use Rattle.buffer.specs.Same.{sameKey}
 use Rattle.buffer.specs.Lengths.{numbersFit, startFits, resultLength}
 use Rattle.ports.specs.Ports.{portAt, withPort}
 use Rattle.ports.specs.Sweep.{front, swept}
 use Rattle.ports.specs.Bitmap.{bitmapOf}
-use Rattle.translator.specs.Search.{find, chosen, pass}
+use Rattle.translator.specs.Order.{pass}
+use Rattle.translator.specs.Search.{find, chosen}
 use Rattle.translator.specs.Limit.{permitted}
 use Rattle.translator.specs.ResetLane.{resetLane}
-use Rattle.translator.specs.Order.{tally, ranked, earliest}
+use Rattle.translator.specs.Translator.{tally}
+use Rattle.translator.specs.Order.{ranked, earliest}
 use Rattle.translator.specs.StartSplit.{stored, startSplit}
 use Rattle.translator.specs.CompleteSplit.{completeSplit}
 use Rattle.translator.specs.Launch.{launch}
@@ -20,13 +22,14 @@ use Rattle.request.specs.Request.{checked, requestOf}
 use Rattle.hub.specs.Hub.{newFits, newHub, configuredAs, tickedHub}
 use Rattle.hub.specs.Requests.{requested}
 use Rattle.hub.specs.Rules.{polled}
-use Rattle.hub.specs.Step.{within, roomy, heard, fitting, served, step}
+use Rattle.hub.specs.Checks.{within, hasSpace, notSilent, fitting}
+use Rattle.hub.specs.Step.{served, step}
 use Rattle.runs.specs.Machine.{afterFrom}
 use Rattle.why.specs.Why.{numbered, changesByPort, pollReason, requestReason, ruleReason, whyOf}
 use Rattle.why.specs.Cases.{WhyCases}
 
 pub why-cases : WhyCases
-unfolding payloadOf sameKey numbersFit startFits resultLength portAt withPort front swept bitmapOf find chosen permitted pass tally ranked earliest stored startSplit completeSplit launch deliver resetLane splitNamed splitFrom keyNamed keyFrom kindOf checked requestOf newFits newHub configuredAs tickedHub requested polled within roomy heard fitting served step afterFrom numbered changesByPort pollReason requestReason ruleReason whyOf
+unfolding payloadOf sameKey numbersFit startFits resultLength portAt withPort front swept bitmapOf find chosen permitted pass tally ranked earliest stored startSplit completeSplit launch deliver resetLane splitNamed splitFrom keyNamed keyFrom kindOf checked requestOf newFits newHub configuredAs tickedHub requested polled within hasSpace notSilent fitting served step afterFrom numbered changesByPort pollReason requestReason ruleReason whyOf
 why-cases =
     record {
       silent = refl;

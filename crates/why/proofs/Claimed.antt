@@ -22,7 +22,8 @@ use Rattle.hub.specs.Call.{Call, Control, Poll, Start, Complete, Launch, Delive
 use Rattle.hub.specs.Requests.{requested}
 use Rattle.hub.specs.Rules.{polled}
 use Rattle.hub.specs.Valid.{ValidHub}
-use Rattle.hub.specs.Step.{within, roomy, heard, fitting, served, step}
+use Rattle.hub.specs.Checks.{within, hasSpace, notSilent, fitting}
+use Rattle.hub.specs.Step.{served, step}
 use Rattle.runs.specs.Refusals.{outside, short, silent}
 use Rattle.runs.proofs.Outside.{outside-tells, short-tells}
 use Rattle.why.specs.declared.Reason.{Reason}
@@ -56,13 +57,13 @@ is-true false n = absurd (n refl)
 inside : (h : Hub) (c : Call) → Passes h c → within h c ≡ true
 inside h c p = is-true (within h c) (λ e. p outside (omega arith) (outside-tells h c .0 e))
 
-wide : (h : Hub) (c : Call) → Passes h c → roomy c ≡ true
-wide h c p = is-true (roomy c) (λ e. p short (omega arith) (short-tells c .0 e))
+wide : (h : Hub) (c : Call) → Passes h c → hasSpace c ≡ true
+wide h c p = is-true (hasSpace c) (λ e. p short (omega arith) (short-tells c .0 e))
 
 none-for : (r : Reason) (a : Answer) → NoReason r → enoughFor r ≡ some a → ⊥
 none-for r a s e = let q : none ≡ some a = ap enoughFor (sym (no-reason r s)) ∙ e in let z : _≡_ {A = ℕ} 0 1 = cc in omega arith
 
-passed : (h : Hub) (c : Call) → within h c ≡ true → roomy c ≡ true → heard h c ≡ true → fitting h c ≡ true → step h c ≡ served h c
+passed : (h : Hub) (c : Call) → within h c ≡ true → hasSpace c ≡ true → notSilent h c ≡ true → fitting h c ≡ true → step h c ≡ served h c
 unfolding step
 passed h c w r s f = rw (w, r, s, f)
 
@@ -90,7 +91,7 @@ module _ (h : Hub) (a : Answer) where
   changes-enough (Wrong x) w e = absurd w
 
   enough : (r : Reason) (c : Call) → KeysApart h → enoughFor r ≡ some a → Passes h c → Said r h c → step h c .answer ≡ a
-  unfolding roomy heard fitting served
+  unfolding hasSpace notSilent fitting served
   enough r (Control v s room) apart e p w =
       let x = inside h (Control v s room) p in
       let y = wide h (Control v s room) p in

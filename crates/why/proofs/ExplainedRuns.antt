@@ -7,7 +7,8 @@ use Rattle.buffer.specs.Lengths.{startFits}
 use Rattle.numbers.specs.Split.{splitNamed, splitFrom}
 use Rattle.hub.specs.declared.Hub.{Hub}
 use Rattle.hub.specs.Call.{Call, Control, Poll, Start, Complete, Launch, Deliver, Event as Line, Tick, BusReset, Outcome}
-use Rattle.hub.specs.Step.{within, step}
+use Rattle.hub.specs.Checks.{within}
+use Rattle.hub.specs.Step.{step}
 use Rattle.runs.specs.History.{Event, History, lastFor}
 use Rattle.runs.specs.Machine.{newHubOf, runFrom}
 use Rattle.runs.specs.Demand3.{Marks, onlyKey, everyKeyOf, SameCall, AllExplained, DataExplained}
@@ -17,7 +18,7 @@ use Rattle.runs.proofs.Steps.{step-kept, start-key}
 use Rattle.runs.proofs.Hiding.{hide-start}
 use Rattle.runs.proofs.HidingHub.{hideH, hideC, step-hide}
 use Rattle.runs.proofs.Theorems.{new-tied, call-hidden, step-same, demand-3}
-use Rattle.runs.proofs.LineSteps.{launch-order}
+use Rattle.runs.proofs.AcceptanceSteps.{launch-order}
 use Rattle.why.specs.declared.Reason.the-variants.{Number}
 use Rattle.why.specs.Said.{isNumber}
 use Rattle.why.specs.Why.{numbered, requestReason, ruleReason, whyOf}

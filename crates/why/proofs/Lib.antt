@@ -2,7 +2,7 @@ pub mod Passing
 pub mod Starts
 pub mod Requests
 pub mod Polls
-pub mod Ways
+pub mod Explaining
 pub mod Stored
 pub mod Claimed
 pub mod ExplainedRuns

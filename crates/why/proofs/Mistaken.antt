@@ -9,16 +9,18 @@ use Rattle.payload.specs.declared.Payload.{Payload}
 use Rattle.payload.specs.Payload.{payloadOf}
 use Rattle.buffer.specs.declared.Lane.the-variants.{Zero}
 use Rattle.buffer.specs.declared.Direction.the-variants as direction
-use Rattle.buffer.specs.Key.{sameKey}
+use Rattle.buffer.specs.Same.{sameKey}
 use Rattle.buffer.specs.Buffer.{isPending}
 use Rattle.buffer.specs.Lengths.{numbersFit, startFits, resultLength}
 use Rattle.port.specs.Reaction.{noChanges}
 use Rattle.ports.specs.Ports.{portAt, withPort}
 use Rattle.ports.specs.Sweep.{front, swept}
 use Rattle.ports.specs.Bitmap.{bitmapOf}
-use Rattle.translator.specs.Search.{find, chosen, pass}
+use Rattle.translator.specs.Order.{pass}
+use Rattle.translator.specs.Search.{find, chosen}
 use Rattle.translator.specs.Limit.{permitted}
-use Rattle.translator.specs.Order.{tally, ranked, earliest}
+use Rattle.translator.specs.Translator.{tally}
+use Rattle.translator.specs.Order.{ranked, earliest}
 use Rattle.translator.specs.StartSplit.{stored, startSplit}
 use Rattle.translator.specs.CompleteSplit.{completeSplit}
 use Rattle.translator.specs.Launch.{launch}
@@ -32,7 +34,8 @@ use Rattle.hub.specs.Hub.{newFits, newHub, configuredAs, tickedHub}
 use Rattle.hub.specs.Call.{Call, Poll, Start, Launch, Answer, plainAnswer}
 use Rattle.hub.specs.Requests.{requested}
 use Rattle.hub.specs.Rules.{polled}
-use Rattle.hub.specs.Step.{within, roomy, heard, fitting, served, step}
+use Rattle.hub.specs.Checks.{within, hasSpace, notSilent, fitting}
+use Rattle.hub.specs.Step.{served, step}
 use Rattle.hub.specs.Cases.{setConfiguration1, setPortFeature, startIn, startOut, completeIn, deliverData0, p4, p11, p12}
 use Rattle.runs.specs.History.{Event, keyOf}
 use Rattle.runs.specs.Machine.{newHubOf, rules, runFrom, afterFrom}
@@ -72,7 +75,7 @@ limit-says h c (says p s) = (p, s)
 
 -- at the limit, with an own old buffer
 own-old-passes : ¬ (WhyEnough (stepBy (startingBy ownOldPasses)))
-unfolding bench seenFrom SameItems SameSeen madeOf makesOf runFrom payloadOf sameKey numbersFit startFits resultLength portAt withPort front swept bitmapOf find chosen permitted pass tally ranked earliest stored startSplit completeSplit launch deliver resetLane splitNamed splitFrom keyNamed keyFrom kindOf checked requestOf newFits newHub configuredAs tickedHub requested polled within roomy heard fitting served step afterFrom numbered changesByPort pollReason requestReason ruleReason whyOf
+unfolding bench seenFrom SameItems SameSeen madeOf makesOf runFrom payloadOf sameKey numbersFit startFits resultLength portAt withPort front swept bitmapOf find chosen permitted pass tally ranked earliest stored startSplit completeSplit launch deliver resetLane splitNamed splitFrom keyNamed keyFrom kindOf checked requestOf newFits newHub configuredAs tickedHub requested polled within hasSpace notSilent fitting served step afterFrom numbered changesByPort pollReason requestReason ruleReason whyOf
 own-old-passes claim =
     let h = afterFrom rules (newHubOf bench) oldAbove in
     let v = reached bench oldAbove in
@@ -93,7 +96,7 @@ first-number [] = 0
 first-number (e ∷ es) = e .answer .number
 
 pub why-mistakes-shut-out : WhyMistakesShutOut
-unfolding hub-after two-old first-number bench seenFrom SameItems SameSeen madeOf makesOf runFrom payloadOf sameKey numbersFit startFits resultLength portAt withPort front swept bitmapOf find chosen permitted pass tally ranked earliest stored startSplit completeSplit launch deliver resetLane splitNamed splitFrom keyNamed keyFrom kindOf checked requestOf newFits newHub configuredAs tickedHub requested polled within roomy heard fitting served step afterFrom numbered changesByPort pollReason requestReason ruleReason whyOf
+unfolding hub-after two-old first-number bench seenFrom SameItems SameSeen madeOf makesOf runFrom payloadOf sameKey numbersFit startFits resultLength portAt withPort front swept bitmapOf find chosen permitted pass tally ranked earliest stored startSplit completeSplit launch deliver resetLane splitNamed splitFrom keyNamed keyFrom kindOf checked requestOf newFits newHub configuredAs tickedHub requested polled within hasSpace notSilent fitting served step afterFrom numbered changesByPort pollReason requestReason ruleReason whyOf
 why-mistakes-shut-out =
     record {
       no-reason = λ t. let e : Nothing ≡ Number 5 = the-same noReason t [] (Poll 0 64) in let z : _≡_ {A = ℕ} 0 1 = cc in omega arith;

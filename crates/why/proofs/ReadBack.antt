@@ -7,7 +7,7 @@ use lib.Dec.{eqb}
 use lib.ListN.{getD}
 use Rattle.port.specs.declared.Changes.{Changes}
 use Rattle.port.specs.Status.{byteOf, changeLow}
-use Rattle.port.specs.Claims.{bitsOf}
+use Rattle.port.specs.Words.{bitsOf}
 use Rattle.port.proofs.Bits.{bits-back}
 use Rattle.why.specs.declared.RequestFault.{RequestFault}
 use Rattle.why.specs.declared.RequestFault.the-variants as wrong

@@ -28,7 +28,7 @@ use Rattle.hub.specs.declared.Hub.{Hub}
 use Rattle.translator.specs.Answers.{choiceNumber}
 use Rattle.numbers.specs.Split.{splitNamed, splitFrom}
 use Rattle.hub.specs.Call.{Start, Answer, plainAnswer}
-use Rattle.hub.specs.Step.{within}
+use Rattle.hub.specs.Checks.{within}
 use Rattle.runs.specs.Refusals.{slotAt}
 use Rattle.why.specs.declared.Reason.{Reason}
 use Rattle.why.specs.declared.Reason.the-variants.{Nothing, Number, HeldBy, Reused, TookFree, LimitReached, NoRoom, Changed, Wrong}

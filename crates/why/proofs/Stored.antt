@@ -28,7 +28,8 @@ use Rattle.numbers.specs.Split.{splitNamed, splitFrom}
 use Rattle.hub.specs.declared.Hub.{Hub}
 use Rattle.hub.specs.Hub.{withTranslator}
 use Rattle.hub.specs.Call.{Call, Start}
-use Rattle.hub.specs.Step.{within, served, step}
+use Rattle.hub.specs.Checks.{within}
+use Rattle.hub.specs.Step.{served, step}
 use Rattle.runs.proofs.Refusing.{refusals}
 use Rattle.why.specs.declared.Reason.the-variants.{Number}
 use Rattle.why.specs.Said.{isNumber}

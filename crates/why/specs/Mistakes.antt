@@ -14,7 +14,8 @@ use Rattle.buffer.specs.Buffer.{isFree}
 use Rattle.translator.specs.declared.Found.the-variants.{Nowhere, At}
 use Rattle.translator.specs.declared.Choice.{Choice}
 use Rattle.translator.specs.declared.Choice.the-variants as choice
-use Rattle.translator.specs.Search.{chooseFree, pass}
+use Rattle.translator.specs.Order.{pass}
+use Rattle.translator.specs.Search.{chooseFree}
 use Rattle.translator.specs.Limit.{permitted}
 use Rattle.translator.specs.StartSplit.{startBy, startSplit}
 use Rattle.hub.specs.declared.Hub.{Hub}

@@ -12,7 +12,7 @@ use Rattle.port.specs.declared.Changes.{Changes}
 use Rattle.port.specs.declared.ChangeBit.{ChangeBit}
 use Rattle.port.specs.Reaction.{noChanges}
 use Rattle.port.specs.Status.{byteOf, hasChange}
-use Rattle.port.specs.Claims.{changeBit}
+use Rattle.port.specs.Words.{changeBit}
 use Rattle.buffer.specs.declared.Key.{Key}
 use Rattle.buffer.specs.declared.BufferNumber.{BufferNumber}
 use Rattle.buffer.specs.Key.{keyOf}

@@ -1,5 +1,5 @@
--- Which reason the tool gives: what its code computes. A reader need not believe this: `TrueOf` (Said.antt) says when a reason is true, and
--- the claims say that this one is, that no other is, and that it is enough.
+-- Internal, pinned by `WhyClaims` (Claims.antt): which reason the tool gives. `TrueOf` (Said.antt) says when a reason is true, and the claims
+-- say that this one is, that no other is, and that it is enough.
 use Prim.Native.Nat.{ℕ}
 use mathlib.Core.Bool.{cond}
 use mathlib.Core.List.{List}

@@ -63,7 +63,7 @@ pub enum Reason {
 fn number_first(number: u8, rest: Reason) -> Reason
     ensures { λ r. ⌜ r ≡ numbered number rest ⌝ }
 {
-    if logic::both(5 <= number, number <= 8) {
+    if bools::both(5 <= number, number <= 8) {
         Reason::Number(number)
     } else {
         rest
@@ -201,7 +201,7 @@ fn request_reason(hub: Hub, bytes: [u8; 8]) -> Reason
     let s = request::setup_of(bytes);
     let kind = request::kind_of(s.requesttype, s.code);
     if kind.is_known() {
-        if logic::either(hub.configured, served_unconfigured(kind)) {
+        if bools::either(hub.configured, served_unconfigured(kind)) {
             own_fault(request::read(bytes, hub.port_count()))
         } else {
             Reason::Wrong(RequestFault::Unconfigured)

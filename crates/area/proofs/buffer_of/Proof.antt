@@ -1,4 +1,4 @@
-use Rattle.taken.specs.Read.{bufferOf}
+use Rattle.area_check.specs.Read.{bufferOf}
 use borrow.Author.Needs.{needs}
 use Rattle.area.proofs.buffer_of.Statement.{statement}
 use Rattle.area.proofs.buffer_of.Tie as tie

@@ -1,6 +1,6 @@
-use Rattle.taken.proofs.Rows.{get-turn}
-use Rattle.taken.specs.Rows.{parts}
-use Rattle.taken.specs.Read.{portOf, noPorts, portsOf}
+use Rattle.area_check.proofs.Rows.{get-turn}
+use Rattle.area_check.specs.Rows.{parts}
+use Rattle.area_check.specs.Read.{portOf, noPorts, portsOf}
 use mathlib.Core.List.{_++_}
 use lib.ListN.{length, drop, set, length-set}
 use borrow.Author.Needs.{needs}

@@ -1,4 +1,4 @@
-use Rattle.taken.specs.Read.{heldSplit}
+use Rattle.area_check.specs.Read.{heldSplit}
 use borrow.Author.Needs.{needs}
 use Rattle.area.proofs.held_split.Statement.{statement}
 use Rattle.area.proofs.held_split.Tie as tie

@@ -1,6 +1,5 @@
 use mathlib.Core.Path.{refl}
-use Rattle.taken.specs.Read.{markedPort}
-use mathlib.Core.Path.{refl}
+use Rattle.area_check.specs.Read.{markedPort}
 use Rattle.area.proofs.marked_port.Statement.{statement}
 use Rattle.area.proofs.marked_port.Tie as tie
 

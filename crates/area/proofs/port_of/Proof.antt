@@ -1,4 +1,4 @@
-use Rattle.taken.specs.Read.{portOf}
+use Rattle.area_check.specs.Read.{portOf}
 use borrow.Author.Needs.{needs}
 use Rattle.area.proofs.port_of.Statement.{statement}
 use Rattle.area.proofs.port_of.Tie as tie

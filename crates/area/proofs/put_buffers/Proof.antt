@@ -1,4 +1,4 @@
-use Rattle.taken.proofs.Rows.{Put, put-start, put-turn, put-length, put-end, part-size}
+use Rattle.area_check.proofs.Rows.{Put, put-start, put-turn, put-length, put-end, part-size}
 use Rattle.area.specs.Written.{bufferBytes}
 use lib.ListN.{length}
 use borrow.Author.Needs.{needs}

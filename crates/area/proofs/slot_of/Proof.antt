@@ -1,4 +1,4 @@
-use Rattle.taken.specs.Read.{slotOf}
+use Rattle.area_check.specs.Read.{slotOf}
 use borrow.Author.Tests.{ne-eqb}
 use borrow.Author.Needs.{needs}
 use Rattle.area.proofs.slot_of.Statement.{statement}

@@ -1,5 +1,5 @@
 use borrow.Author.Needs.{needs}
-use Rattle.grimholdi.proofs.Ways.{settles, refuses}
+use Rattle.grimholdi.proofs.Entries.{settles, refuses}
 use Rattle.grimholdi.proofs.grimholdi_bus_reset.Statement.{statement}
 use Rattle.grimholdi.proofs.grimholdi_bus_reset.Tie as tie
 

@@ -1,5 +1,5 @@
 use borrow.Author.Needs.{needs}
-use Rattle.grimholdi.proofs.Ways.{settles-reply, refuses-reply}
+use Rattle.grimholdi.proofs.Entries.{settles-reply, refuses-reply}
 use Rattle.grimholdi.proofs.grimholdi_control.Statement.{statement}
 use Rattle.grimholdi.proofs.grimholdi_control.Tie as tie
 

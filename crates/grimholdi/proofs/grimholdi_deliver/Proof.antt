@@ -4,11 +4,11 @@ use borrow.Author.Needs.{needs}
 use Rattle.grimholdi.proofs.grimholdi_deliver.Statement.{statement}
 use Rattle.grimholdi.proofs.grimholdi_deliver.Tie as tie
 
-is-taken-requires : tie.Need-is-taken-requires
-is-taken-requires c κs = search needs
+is-area-requires : tie.Need-is-area-requires
+is-area-requires c κs = search needs
 
 deliver-requires : tie.Need-deliver-requires
-deliver-requires c κs = sym (c .before .before .is-taken .ensures) ∙ c .before .if1 .taken
+deliver-requires c κs = sym (c .before .before .is-area .ensures) ∙ c .before .if1 .taken
 
 same-length : tie.Need-same-length
 same-length c = search needs
@@ -23,13 +23,13 @@ same-length-2 : tie.Need-same-length-2
 same-length-2 c = search needs
 
 returns-2 : tie.Need-returns-2
-returns-2 c = turned-away _ (sym (c .before .before .is-taken .ensures) ∙ c .before .if1 .left) _ _ (c .plain-answer .ensures)
+returns-2 c = turned-away _ (sym (c .before .before .is-area .ensures) ∙ c .before .if1 .left) _ _ (c .plain-answer .ensures)
 
 pub grimholdi-deliver-spec : {M : Type 1} → statement M
 grimholdi-deliver-spec =
     tie.close
     (tie.spec
-    is-taken-requires
+    is-area-requires
     deliver-requires
     same-length
     returns

@@ -4,11 +4,11 @@ use borrow.Author.Needs.{needs}
 use Rattle.grimholdi.proofs.grimholdi_launch.Statement.{statement}
 use Rattle.grimholdi.proofs.grimholdi_launch.Tie as tie
 
-is-taken-requires : tie.Need-is-taken-requires
-is-taken-requires c κs = search needs
+is-area-requires : tie.Need-is-area-requires
+is-area-requires c κs = search needs
 
 launch-requires : tie.Need-launch-requires
-launch-requires c κs = sym (c .before .before .before .is-taken .ensures) ∙ c .before .before .if1 .taken
+launch-requires c κs = sym (c .before .before .before .is-area .ensures) ∙ c .before .before .if1 .taken
 
 same-length : tie.Need-same-length
 same-length c = search needs
@@ -26,13 +26,13 @@ same-length-3 : tie.Need-same-length-3
 same-length-3 c = search needs
 
 returns-2 : tie.Need-returns-2
-returns-2 c = not-taken _ (sym (c .before .before .is-taken .ensures) ∙ c .before .if1 .left) _ _ _ (c .plain-answer .ensures)
+returns-2 c = not-taken _ (sym (c .before .before .is-area .ensures) ∙ c .before .if1 .left) _ _ _ (c .plain-answer .ensures)
 
 pub grimholdi-launch-spec : {M : Type 1} → statement M
 grimholdi-launch-spec =
     tie.close
     (tie.spec
-    is-taken-requires
+    is-area-requires
     launch-requires
     same-length
     same-length-2

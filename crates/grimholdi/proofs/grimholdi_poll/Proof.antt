@@ -1,4 +1,4 @@
-use Rattle.grimholdi.proofs.Ways.{gives-reply, poll-stays, refuses-reply}
+use Rattle.grimholdi.proofs.Entries.{gives-reply, poll-stays, refuses-reply}
 use borrow.Author.Needs.{needs}
 use Rattle.grimholdi.proofs.grimholdi_poll.Statement.{statement}
 use Rattle.grimholdi.proofs.grimholdi_poll.Tie as tie
@@ -15,9 +15,6 @@ give-reply-requires c κs = search needs
 same-length : tie.Need-same-length
 same-length c = search needs
 
-same-length-2 : tie.Need-same-length-2
-same-length-2 c = search needs
-
 returns : tie.Need-returns
 returns c =
     let called = c .before .before .before .before in
@@ -26,9 +23,6 @@ returns c =
 
 plain-answer-requires : tie.Need-plain-answer-requires
 plain-answer-requires c κs = search needs
-
-same-length-3 : tie.Need-same-length-3
-same-length-3 c = search needs
 
 returns-2 : tie.Need-returns-2
 returns-2 c = refuses-reply _ _ (c .before .before .read-area .ensures) (c .before .if1 .left) _ _ _ (c .plain-answer .ensures)
@@ -41,8 +35,6 @@ grimholdi-poll-spec =
     poll-requires
     give-reply-requires
     same-length
-    same-length-2
     returns
     plain-answer-requires
-    same-length-3
     returns-2)

@@ -1,5 +1,5 @@
 use borrow.Author.Needs.{needs}
-use Rattle.grimholdi.proofs.Ways.{settles, refuses}
+use Rattle.grimholdi.proofs.Entries.{settles, refuses}
 use Rattle.grimholdi.proofs.grimholdi_tick.Statement.{statement}
 use Rattle.grimholdi.proofs.grimholdi_tick.Tie as tie
 

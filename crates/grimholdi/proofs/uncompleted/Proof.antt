@@ -1,6 +1,6 @@
 use mathlib.Core.Path.{_∙_, ap}
 use borrow.Author.Needs.{needs}
-use Rattle.grimholdi.specs.Entry.{plainSaid}
+use Rattle.grimholdi.specs.Outcome.{plainStruct}
 use Rattle.grimholdi.proofs.uncompleted.Statement.{statement}
 use Rattle.grimholdi.proofs.uncompleted.Tie as tie
 
@@ -11,7 +11,7 @@ plain-answer-requires : tie.Need-plain-answer-requires
 plain-answer-requires c κs = search needs
 
 returns : tie.Need-returns
-returns c = c .plain-answer .ensures ∙ ap plainSaid (c .before .complete-answer .ensures)
+returns c = c .plain-answer .ensures ∙ ap plainStruct (c .before .complete-answer .ensures)
 
 pub uncompleted-spec : {M : Type 1} → statement M
 uncompleted-spec = tie.close (tie.spec complete-answer-requires plain-answer-requires returns)

@@ -1,4 +1,4 @@
-use Rattle.grimholdi_block.proofs.Ways.{way-facts, add-nowhere, add-none, add-full, add-done}
+use Rattle.grimholdi_block.proofs.Writing.{way-facts, add-nowhere, add-none, add-full, add-done}
 use native.Mathlib.Omega.{arith}
 use borrow.Author.Tests.{not-true, not-false}
 use borrow.Author.Needs.{needs}

@@ -1,4 +1,4 @@
-use Rattle.grimholdi_block.proofs.Ways.{filled-long, finish-nothing, finish-bad, finish-done}
+use Rattle.grimholdi_block.proofs.Writing.{filled-long, finish-nothing, finish-bad, finish-done}
 use borrow.Author.Tests.{not-true, not-false}
 use borrow.Author.Needs.{needs}
 use Rattle.grimholdi_block.proofs.grimholdi_block_finish.Statement.{statement}

@@ -1,4 +1,4 @@
-use Rattle.grimholdi_block.proofs.Ways.{start-length, start-zero, start-large, start-done}
+use Rattle.grimholdi_block.proofs.Writing.{start-length, start-zero, start-large, start-done}
 use mathlib.Core.Path.{_∙_, ap}
 use Rattle.call_bytes.specs.Words.{half}
 use Rattle.grimholdi_block.specs.Writing.{placed}

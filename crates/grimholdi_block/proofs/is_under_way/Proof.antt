@@ -1,4 +1,4 @@
-use Rattle.grimholdi_block.proofs.Ways.{way-length, way-finished, way-count}
+use Rattle.grimholdi_block.proofs.Writing.{way-length, way-finished, way-count}
 use borrow.Author.Tests.{not-true, not-false}
 use borrow.Author.Needs.{needs}
 use Rattle.grimholdi_block.proofs.is_under_way.Statement.{statement}

@@ -1,4 +1,4 @@
-use Rattle.grimholdi_block.proofs.Ways.{whole-is}
+use Rattle.grimholdi_block.proofs.Writing.{whole-is}
 use borrow.Author.Needs.{needs}
 use Rattle.grimholdi_block.proofs.is_whole.Statement.{statement}
 use Rattle.grimholdi_block.proofs.is_whole.Tie as tie

@@ -1,4 +1,4 @@
-use Rattle.grimholdi_block.proofs.Ways.{longer-is}
+use Rattle.grimholdi_block.proofs.Writing.{longer-is}
 use borrow.Author.Needs.{needs}
 use Rattle.grimholdi_block.proofs.lengthen.Statement.{statement}
 use Rattle.grimholdi_block.proofs.lengthen.Tie as tie

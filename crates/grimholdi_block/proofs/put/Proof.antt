@@ -1,4 +1,4 @@
-use Rattle.grimholdi_block.proofs.Ways.{put-is}
+use Rattle.grimholdi_block.proofs.Writing.{put-is}
 use borrow.Author.Needs.{needs}
 use Rattle.grimholdi_block.proofs.put.Statement.{statement}
 use Rattle.grimholdi_block.proofs.put.Tie as tie

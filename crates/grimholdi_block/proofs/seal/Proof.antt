@@ -1,4 +1,4 @@
-use Rattle.grimholdi_block.proofs.Ways.{seal-is}
+use Rattle.grimholdi_block.proofs.Writing.{seal-is}
 use borrow.Author.Needs.{needs}
 use Rattle.grimholdi_block.proofs.seal.Statement.{statement}
 use Rattle.grimholdi_block.proofs.seal.Tie as tie

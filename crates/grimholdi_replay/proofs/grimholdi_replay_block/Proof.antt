@@ -1,4 +1,4 @@
-use Rattle.grimholdi_replay.proofs.Ways.{refuses, no-space, length-fits, replays}
+use Rattle.grimholdi_replay.proofs.Entry.{refuses, no-space, length-fits, replays}
 use native.Mathlib.Omega.{arith}
 use borrow.Author.Tests.{not-true, not-false}
 use borrow.Author.Needs.{needs}
@@ -58,9 +58,9 @@ cast-t21 c =
     let r = d .before .before .before .before .before in
     let a = r .before .before .before .before .before .args in
     let ok = not-false _ (d .before .before .before .if1 .left) in
-    let roomy = not-false _ (k .if2 .left) in
+    let enough = not-false _ (k .if2 .left) in
     let e = d .replay-block .ensures .0 in
-    let small = length-fits (a .area .now) (a .place) (a .block .now) (a .answers .now) _ (r .read-area .ensures) ok _ e roomy in
+    let small = length-fits (a .area .now) (a .place) (a .block .now) (a .answers .now) _ (r .read-area .ensures) ok _ e enough in
     omega (arith, small)
 
 same-length-4 : tie.Need-same-length-4
@@ -76,9 +76,9 @@ returns-3 c =
     let r = d .before .before .before .before .before in
     let a = r .before .before .before .before .before .args in
     let ok = not-false _ (d .before .before .before .if1 .left) in
-    let roomy = not-false _ (k .if2 .left) in
+    let enough = not-false _ (k .if2 .left) in
     let left = c .before .before .before .before .before .write-area .ensures in
-    replays (a .area .now) (a .place) (a .block .now) (a .answers .now) _ (r .read-area .ensures) ok _ (d .replay-block .ensures .0) roomy
+    replays (a .area .now) (a .place) (a .block .now) (a .answers .now) _ (r .read-area .ensures) ok _ (d .replay-block .ensures .0) enough
     (c .before .before .refusal-number .ensures) (c .before .active .ensures .0) left (d .replay-block .ensures .1)
 
 pub grimholdi-replay-block-spec : {M : Type 1} → statement M

@@ -2,7 +2,7 @@ use Prim.Native.Nat.{_+_, _-_, _*_, _≤_}
 use native.Mathlib.Omega.{arith}
 use native.Mathlib.Numerals.{add-one}
 use mathlib.Core.Path.{_≡_, refl, sym, _∙_, ap, ap₂}
-use Rattle.recording.specs.Block.{sumTo}
+use Rattle.recording.specs.Written.{sumTo}
 use borrow.Author.Needs.{needs}
 use Rattle.recording.proofs.word_sum.Statement.{statement}
 use Rattle.recording.proofs.word_sum.Tie as tie

@@ -1,4 +1,4 @@
-use Rattle.replay.proofs.Ways.{active-is}
+use Rattle.replay.proofs.Playing.{active-is}
 use mathlib.Core.Path.{_≡_}
 use lib.ListN.{length}
 use Rattle.buffer.specs.Buffer.{isActive}

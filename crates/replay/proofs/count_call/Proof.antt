@@ -1,4 +1,4 @@
-use Rattle.replay.proofs.Ways.{more-active, fewer-answered, fewer-emptied}
+use Rattle.replay.proofs.Playing.{more-active, fewer-answered, fewer-emptied}
 use native.Mathlib.Omega.{arith}
 use borrow.Author.Needs.{needs}
 use Rattle.replay.proofs.count_call.Statement.{statement}

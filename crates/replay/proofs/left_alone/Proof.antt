@@ -11,7 +11,7 @@ no-counts-requires c κs = search needs
 returns : tie.Need-returns
 returns c =
     let a = c .before .args in
-    ap (λ (t : Tally). record { roomy = a .roomy; hub = a .hub; verdict = a .verdict; counts = countsOf t; written = 0 }) (c .no-counts .ensures)
+    ap (λ (t : Tally). record { enough = a .enough; hub = a .hub; verdict = a .verdict; counts = countsOf t; written = 0 }) (c .no-counts .ensures)
 
 pub left-alone-spec : {M : Type 1} → statement M
 left-alone-spec = tie.close (tie.spec no-counts-requires returns)

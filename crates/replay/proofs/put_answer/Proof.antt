@@ -1,5 +1,5 @@
-use Rattle.replay.proofs.Ways.{head-with, answer-put, answer-size, content-short}
-use Rattle.hub.specs.Call.{outcomeOf}
+use Rattle.replay.proofs.Playing.{head-with, answer-put, answer-size, content-short}
+use Rattle.hub.specs.Method.{outcomeOf}
 use Prim.Native.Nat.{ℕ, _≤_}
 use mathlib.Core.Path.{_≡_, ap, subst}
 use lib.ListN.{length}

@@ -1,6 +1,6 @@
 use mathlib.Core.Path.{sym, _∙_}
 use borrow.Author.Needs.{needs}
-use Rattle.request.proofs.Ways.{right, wrong-length, wrong-index, wrong-value, wrong-type}
+use Rattle.request.proofs.Reading.{right, wrong-length, wrong-index, wrong-value, wrong-type}
 use Rattle.request.proofs.read.Statement.{statement}
 use Rattle.request.proofs.read.Tie as tie
 

@@ -1,4 +1,4 @@
-use Rattle.runs.proofs.LineSteps.{launch-order}
+use Rattle.runs.proofs.AcceptanceSteps.{launch-order}
 use Rattle.runs.proofs.launch_order.Statement.{statement}
 use Rattle.runs.proofs.launch_order.Tie as tie
 

@@ -1,9 +1,10 @@
 -- The rows of specs/SearchCases.antt hold by computation.
 use mathlib.Core.Path.{refl}
-use Rattle.buffer.specs.Key.{sameKey}
+use Rattle.buffer.specs.Same.{sameKey}
 use Rattle.translator.specs.Slots.{bare}
-use Rattle.translator.specs.Search.{find, chosen, pass}
-use Rattle.translator.specs.Order.{tally}
+use Rattle.translator.specs.Order.{pass}
+use Rattle.translator.specs.Search.{find, chosen}
+use Rattle.translator.specs.Translator.{tally}
 use Rattle.translator.specs.Limit.{permitted}
 use Rattle.translator.specs.OnePass.{look}
 use Rattle.translator.proofs.search_cases.Statement.{statement}

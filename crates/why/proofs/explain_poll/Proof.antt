@@ -1,4 +1,4 @@
-use Rattle.why.proofs.Ways.{poll-way}
+use Rattle.why.proofs.Explaining.{poll-way}
 use borrow.Author.Needs.{needs}
 use Rattle.why.proofs.explain_poll.Statement.{statement}
 use Rattle.why.proofs.explain_poll.Tie as tie

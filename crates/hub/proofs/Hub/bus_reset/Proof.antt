@@ -1,4 +1,5 @@
-use Rattle.hub.specs.Step.{within, roomy, heard, fitting, served, step}
+use Rattle.hub.specs.Checks.{within, hasSpace, notSilent, fitting}
+use Rattle.hub.specs.Step.{served, step}
 use Rattle.hub.specs.Hub.{resetHub}
 use borrow.Author.Needs.{needs}
 use Rattle.hub.proofs.Hub.bus_reset.Statement.{statement}
@@ -14,7 +15,7 @@ done-requires : tie.Need-done-requires
 done-requires c κs = search needs
 
 returns : tie.Need-returns
-unfolding within roomy heard fitting served step resetHub
+unfolding within hasSpace notSilent fitting served step resetHub
 returns c = rw (c .done .ensures, c .before .empty .ensures, c .before .before .new-ports .ensures)
 
 pub bus-reset-spec : {M : Type 1} → statement M

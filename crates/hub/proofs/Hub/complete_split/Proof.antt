@@ -1,6 +1,7 @@
 use mathlib.Core.Path.{refl, _∙_}
 use Rattle.hub.specs.Call.{Complete}
-use Rattle.hub.specs.Step.{within, roomy, heard, fitting, served}
+use Rattle.hub.specs.Checks.{within, hasSpace, notSilent, fitting}
+use Rattle.hub.specs.Step.{served}
 use Rattle.hub.proofs.Order.{refused-by, served-by}
 use borrow.Author.Needs.{needs}
 use Rattle.hub.proofs.Hub.complete_split.Statement.{statement}
@@ -16,7 +17,7 @@ answer-requires : tie.Need-answer-requires
 answer-requires c κs = search needs
 
 returns : tie.Need-returns
-unfolding within roomy heard fitting
+unfolding within hasSpace notSilent fitting
 returns c =
     let r = c .before .before in
     refused-by _ (Complete _ _ _ _ _) (c .answer .ensures) (r .first-refusal .ensures) (r .before .key-named .ensures) refl refl refl
@@ -32,7 +33,7 @@ completed-requires : tie.Need-completed-requires
 completed-requires c κs = search needs
 
 returns-2 : tie.Need-returns-2
-unfolding within roomy heard fitting served
+unfolding within hasSpace notSilent fitting served
 returns-2 c =
     let k = c .before .before in
     let r = k .before .before in

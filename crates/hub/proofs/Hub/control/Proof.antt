@@ -1,11 +1,11 @@
 use native.Mathlib.Omega.{arith}
 use borrow.Author.Tests.{ne-eqb}
-use mathlib.Core.Path.{refl}
+use mathlib.Core.Path.{refl, _∙_}
 use Rattle.hub.specs.Call.{Control}
-use Rattle.hub.specs.Step.{within, roomy, heard, fitting, served}
-use Rattle.hub.proofs.Ways.{control-served}
+use Rattle.hub.specs.Checks.{within, hasSpace, notSilent, fitting}
+use Rattle.hub.specs.Step.{served}
+use Rattle.hub.proofs.Calls.{control-served}
 use Rattle.hub.proofs.Order.{refused-by, served-by}
-use mathlib.Core.Path.{_∙_}
 use borrow.Author.Needs.{needs}
 use Rattle.hub.proofs.Hub.control.Statement.{statement}
 use Rattle.hub.proofs.Hub.control.Tie as tie
@@ -23,7 +23,7 @@ answer-requires : tie.Need-answer-requires
 answer-requires c κs = search needs
 
 returns : tie.Need-returns
-unfolding within roomy heard fitting
+unfolding within hasSpace notSilent fitting
 returns c =
     let r = c .before .before in
     refused-by _ (Control _ _ _) (c .answer .ensures) (r .first-refusal .ensures) (r .before .both .ensures ∙ rw (r .before .before .is-lane .ensures)) refl refl refl
@@ -33,7 +33,7 @@ answer-requires-2 : tie.Need-answer-requires-2
 answer-requires-2 c κs = search needs
 
 returns-2 : tie.Need-returns-2
-unfolding within roomy heard fitting
+unfolding within hasSpace notSilent fitting
 returns-2 c = refused-by _ (Control _ _ _) (c .answer2 .ensures) (c .before .before .before .first-refusal .ensures) (c .before .before .before .before .both .ensures ∙ rw (c .before .before .before .before .before .is-lane .ensures)) refl refl refl (c .before .if2 .taken)
 
 shared-slice-read-t13 : tie.Need-shared-slice-read-t13
@@ -73,7 +73,7 @@ serve-requires : tie.Need-serve-requires
 serve-requires c κs = search needs
 
 returns-3 : tie.Need-returns-3
-unfolding within roomy heard fitting served
+unfolding within hasSpace notSilent fitting served
 returns-3 c =
     let i = c .before .before .before .before .before .before .before .before .before .before .before .before in
     let r = i .before .before in

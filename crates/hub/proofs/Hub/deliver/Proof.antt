@@ -1,7 +1,8 @@
-use Rattle.hub.proofs.Ways.{deliver-fits}
+use Rattle.hub.proofs.Calls.{deliver-fits}
 use mathlib.Core.Path.{refl, _∙_}
 use Rattle.hub.specs.Call.{Deliver}
-use Rattle.hub.specs.Step.{within, roomy, heard, fitting, served}
+use Rattle.hub.specs.Checks.{within, hasSpace, notSilent, fitting}
+use Rattle.hub.specs.Step.{served}
 use Rattle.hub.proofs.Order.{refused-by, served-by}
 use borrow.Author.Needs.{needs}
 use Rattle.hub.proofs.Hub.deliver.Statement.{statement}
@@ -32,7 +33,7 @@ answer-requires : tie.Need-answer-requires
 answer-requires c κs = search needs
 
 returns : tie.Need-returns
-unfolding within roomy heard fitting
+unfolding within hasSpace notSilent fitting
 returns c =
     let r = c .before .before in
     let n = r .before in
@@ -49,7 +50,7 @@ answer-requires-2 : tie.Need-answer-requires-2
 answer-requires-2 c κs = search needs
 
 returns-2 : tie.Need-returns-2
-unfolding within roomy heard fitting served
+unfolding within hasSpace notSilent fitting served
 returns-2 c =
     let r = c .before .before .before in
     let n = r .before in

@@ -1,7 +1,7 @@
 use native.Mathlib.Omega.{arith}
 use lib.Seq.{length-take-le}
 use mathlib.Core.Path.{sym}
-use Rattle.hub.proofs.Ways.{descriptor-cut}
+use Rattle.hub.proofs.Calls.{descriptor-cut}
 use borrow.Author.Needs.{needs}
 use Rattle.hub.proofs.Hub.get_descriptor.Statement.{statement}
 use Rattle.hub.proofs.Hub.get_descriptor.Tie as tie

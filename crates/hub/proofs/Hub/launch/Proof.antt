@@ -1,7 +1,8 @@
-use Rattle.hub.proofs.Ways.{launch-fits}
+use Rattle.hub.proofs.Calls.{launch-fits}
 use mathlib.Core.Path.{refl, _∙_}
 use Rattle.hub.specs.Call.{Launch}
-use Rattle.hub.specs.Step.{within, roomy, heard, fitting, served}
+use Rattle.hub.specs.Checks.{within, hasSpace, notSilent, fitting}
+use Rattle.hub.specs.Step.{served}
 use Rattle.hub.proofs.Order.{refused-by, served-by}
 use borrow.Author.Needs.{needs}
 use Rattle.hub.proofs.Hub.launch.Statement.{statement}
@@ -20,7 +21,7 @@ answer-requires : tie.Need-answer-requires
 answer-requires c κs = search needs
 
 returns : tie.Need-returns
-unfolding within roomy heard fitting
+unfolding within hasSpace notSilent fitting
 returns c =
     let r = c .before .before in
     let l = r .before .before in
@@ -31,7 +32,7 @@ launched-requires : tie.Need-launched-requires
 launched-requires c κs = search needs
 
 returns-2 : tie.Need-returns-2
-unfolding within roomy heard fitting served
+unfolding within hasSpace notSilent fitting served
 returns-2 c =
     let r = c .before .before in
     let l = r .before .before in

@@ -1,6 +1,6 @@
 use mathlib.Core.Path.{_∙_}
-use Rattle.hub.specs.Step.{within}
-use Rattle.hub.proofs.Ways.{event-refused, event-stepped, event-at}
+use Rattle.hub.specs.Checks.{within}
+use Rattle.hub.proofs.Calls.{event-refused, event-stepped, event-at}
 use borrow.Author.Needs.{needs}
 use Rattle.hub.proofs.Hub.line_event.Statement.{statement}
 use Rattle.hub.proofs.Hub.line_event.Tie as tie

@@ -1,7 +1,8 @@
 use mathlib.Core.Path.{refl, _∙_}
 use Rattle.hub.specs.Call.{Poll}
-use Rattle.hub.specs.Step.{within, roomy, heard, fitting, served}
-use Rattle.hub.proofs.Ways.{poll-nothing, poll-data}
+use Rattle.hub.specs.Checks.{within, hasSpace, notSilent, fitting}
+use Rattle.hub.specs.Step.{served}
+use Rattle.hub.proofs.Calls.{poll-nothing, poll-data}
 use Rattle.hub.proofs.Order.{refused-by, served-by}
 use borrow.Author.Needs.{needs}
 use Rattle.hub.proofs.Hub.poll.Statement.{statement}
@@ -17,7 +18,7 @@ answer-requires : tie.Need-answer-requires
 answer-requires c κs = search needs
 
 returns : tie.Need-returns
-unfolding within roomy heard fitting
+unfolding within hasSpace notSilent fitting
 returns c = refused-by _ (Poll _ _) (c .answer .ensures) (c .before .before .first-refusal .ensures) (c .before .before .before .is-lane .ensures) refl refl refl (c .before .if1 .taken)
 
 port-count-requires : tie.Need-port-count-requires
@@ -30,7 +31,7 @@ give-nothing-requires : tie.Need-give-nothing-requires
 give-nothing-requires c κs = search needs
 
 returns-2 : tie.Need-returns-2
-unfolding within roomy heard fitting served
+unfolding within hasSpace notSilent fitting served
 returns-2 c =
     let b = c .before .before in
     served-by _ (Poll _ _) (b .before .before .before .first-refusal .ensures) (b .before .before .before .before .is-lane .ensures) refl refl refl (b .before .before .if1 .left)
@@ -46,7 +47,7 @@ give-data-requires : tie.Need-give-data-requires
 give-data-requires c κs = search needs
 
 returns-3 : tie.Need-returns-3
-unfolding within roomy heard fitting served
+unfolding within hasSpace notSilent fitting served
 returns-3 c =
     let b = c .before .before .before .before in
     served-by _ (Poll _ _) (b .before .before .before .first-refusal .ensures) (b .before .before .before .before .is-lane .ensures) refl refl refl (b .before .before .if1 .left)

@@ -1,4 +1,4 @@
-use Rattle.hub.proofs.Ways.{requested-done, requested-refused}
+use Rattle.hub.proofs.Calls.{requested-done, requested-refused}
 use borrow.Author.Needs.{needs}
 use Rattle.hub.proofs.Hub.serve.Statement.{statement}
 use Rattle.hub.proofs.Hub.serve.Tie as tie

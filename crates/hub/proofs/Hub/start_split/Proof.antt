@@ -1,6 +1,7 @@
 use mathlib.Core.Path.{refl, _∙_}
 use Rattle.hub.specs.Call.{Start}
-use Rattle.hub.specs.Step.{within, roomy, heard, fitting, served}
+use Rattle.hub.specs.Checks.{within, hasSpace, notSilent, fitting}
+use Rattle.hub.specs.Step.{served}
 use Rattle.hub.proofs.Order.{refused-by, served-by}
 use borrow.Author.Needs.{needs}
 use Rattle.hub.proofs.Hub.start_split.Statement.{statement}
@@ -25,7 +26,7 @@ answer-requires : tie.Need-answer-requires
 answer-requires c κs = search needs
 
 returns : tie.Need-returns
-unfolding within roomy heard fitting
+unfolding within hasSpace notSilent fitting
 returns c =
     let r = c .before .before in
     let w = r .before in
@@ -46,7 +47,7 @@ answer-requires-2 : tie.Need-answer-requires-2
 answer-requires-2 c κs = search needs
 
 returns-2 : tie.Need-returns-2
-unfolding within roomy heard fitting served
+unfolding within hasSpace notSilent fitting served
 returns-2 c =
     let t = c .before .before .before .before in
     let r = t .before .before in

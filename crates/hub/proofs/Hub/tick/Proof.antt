@@ -1,4 +1,5 @@
-use Rattle.hub.specs.Step.{within, roomy, heard, fitting, served, step}
+use Rattle.hub.specs.Checks.{within, hasSpace, notSilent, fitting}
+use Rattle.hub.specs.Step.{served, step}
 use Rattle.hub.specs.Hub.{tickedHub}
 use borrow.Author.Needs.{needs}
 use Rattle.hub.proofs.Hub.tick.Statement.{statement}
@@ -14,14 +15,14 @@ done-requires : tie.Need-done-requires
 done-requires c κs = search needs
 
 returns : tie.Need-returns
-unfolding within roomy heard fitting served step tickedHub
+unfolding within hasSpace notSilent fitting served step tickedHub
 returns c = rw (c .done .ensures, c .before .with-ports .ensures, c .before .before .sweep .ensures, c .before .before .before .if1 .taken)
 
 done-requires-2 : tie.Need-done-requires-2
 done-requires-2 c κs = search needs
 
 returns-2 : tie.Need-returns-2
-unfolding within roomy heard fitting served step tickedHub
+unfolding within hasSpace notSilent fitting served step tickedHub
 returns-2 c = rw (c .done2 .ensures, c .before .if1 .left)
 
 pub tick-spec : {M : Type 1} → statement M
