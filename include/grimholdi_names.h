@@ -4,8 +4,10 @@
  *   printf("port %u: %s\n", port,
  *          grimholdi_state_name(grimholdi_port_state(area, area_len, port)));
  *
- * All is static inline: nothing is linked, and a firmware that logs nothing
- * has no string of it.  A number that has no name gives "unknown".
+ * All is static inline: nothing is linked, and a firmware has the strings of
+ * the functions that it uses.  Any number may be handed in; one that has no
+ * name gives GRIMHOLDI_UNKNOWN.  The programs `why` and `replay` print the same
+ * names.
  */
 
 #ifndef GRIMHOLDI_NAMES_H
@@ -63,6 +65,7 @@ static inline const char *grimholdi_pid_name(uint32_t pid)
     }
 }
 
+/* A transfer type. */
 static inline const char *grimholdi_transfer_name(uint32_t transfer)
 {
     switch (transfer) {
@@ -72,6 +75,7 @@ static inline const char *grimholdi_transfer_name(uint32_t transfer)
     }
 }
 
+/* The direction of a key. */
 static inline const char *grimholdi_direction_name(uint32_t direction)
 {
     switch (direction) {
@@ -113,7 +117,17 @@ static inline const char *grimholdi_state_name(uint32_t state)
     }
 }
 
-/* A device's speed, as grimholdi_port_speed gives it. */
+/* The flag `low_speed` of a start-split and of a launch's answer. */
+static inline const char *grimholdi_low_speed_name(uint32_t low_speed)
+{
+    switch (low_speed) {
+    case 0:  return "full";
+    case 1:  return "low";
+    default: return GRIMHOLDI_UNKNOWN;
+    }
+}
+
+/* A device's speed, as grimholdi_port_speed gives it; not the flag above. */
 static inline const char *grimholdi_speed_name(uint32_t speed)
 {
     switch (speed) {
@@ -134,6 +148,23 @@ static inline const char *grimholdi_change_name(uint32_t change)
     case GRIMHOLDI_CHANGE_OVER_CURRENT: return "C_PORT_OVER_CURRENT";
     case GRIMHOLDI_CHANGE_RESET:        return "C_PORT_RESET";
     default:                            return GRIMHOLDI_UNKNOWN;
+    }
+}
+
+/* The field `kind` of a reason. */
+static inline const char *grimholdi_why_name(uint32_t kind)
+{
+    switch (kind) {
+    case GRIMHOLDI_WHY_NONE:      return "NONE";
+    case GRIMHOLDI_WHY_NUMBER:    return "NUMBER";
+    case GRIMHOLDI_WHY_HELD:      return "HELD";
+    case GRIMHOLDI_WHY_REUSED:    return "REUSED";
+    case GRIMHOLDI_WHY_TOOK_FREE: return "TOOK_FREE";
+    case GRIMHOLDI_WHY_LIMIT:     return "LIMIT";
+    case GRIMHOLDI_WHY_NO_ROOM:   return "NO_ROOM";
+    case GRIMHOLDI_WHY_CHANGES:   return "CHANGES";
+    case GRIMHOLDI_WHY_WRONG:     return "WRONG";
+    default:                      return GRIMHOLDI_UNKNOWN;
     }
 }
 

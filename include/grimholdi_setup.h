@@ -1,8 +1,10 @@
 /*
  * grimholdi_setup.h - the setup packets of the requests that the hub serves
  *
- * All is static inline: nothing is linked.  `setup` is written whole, its
- * GRIMHOLDI_SETUP_LENGTH bytes; hand it to grimholdi_control:
+ * A host sends them, and the firmware hands them on as they come.  These
+ * functions are for a firmware that makes requests of its own, and for tests.
+ * Each writes the GRIMHOLDI_SETUP_LENGTH bytes of `setup`; hand them to
+ * grimholdi_control:
  *
  *   uint8_t setup[GRIMHOLDI_SETUP_LENGTH];
  *
@@ -10,9 +12,11 @@
  *   answer = grimholdi_control(area, area_len, lane, setup, sizeof setup,
  *                              reply, sizeof reply);
  *
- * Any number may be handed in.  One that has no place in its field is written
- * as a value that the hub answers with STALL: a number is never cut to one
- * that names another port, feature or device.
+ * All is static inline: nothing is linked.
+ *
+ * Any number may be handed in.  One that no request has gives a packet that
+ * the hub answers with STALL: a number is never cut to one that names another
+ * port, feature or device.
  */
 
 #ifndef GRIMHOLDI_SETUP_H
@@ -24,17 +28,23 @@
 extern "C" {
 #endif
 
-/* A field of a setup packet that no request has: the hub answers STALL. */
+/*
+ * What stands for a number that has no place in wValue or wIndex.  No request
+ * has it there: the hub answers STALL.
+ */
 #define GRIMHOLDI_SETUP_NOTHING  0xFFFF
 
-/* A number in a field of 16 bits, or GRIMHOLDI_SETUP_NOTHING. */
+/* A number as a field of 16 bits, or GRIMHOLDI_SETUP_NOTHING. */
 static inline uint16_t grimholdi_setup_field(uint32_t number)
 {
     return number > 0xFFFFu ? (uint16_t)GRIMHOLDI_SETUP_NOTHING
                             : (uint16_t)number;
 }
 
-/* Any setup packet: bmRequestType, bRequest, wValue, wIndex, wLength. */
+/*
+ * Any setup packet, from fields of their own width: bmRequestType, bRequest,
+ * wValue, wIndex, wLength.  The functions below use it.
+ */
 static inline void grimholdi_setup_packet(uint8_t *setup, uint8_t type,
                                           uint8_t request, uint16_t value,
                                           uint16_t index, uint16_t length)
@@ -49,7 +59,7 @@ static inline void grimholdi_setup_packet(uint8_t *setup, uint8_t type,
     setup[7] = (uint8_t)(length >> 8);
 }
 
-/* SetConfiguration: 0 or 1. */
+/* SetConfiguration: 0 or 1.  Acts on both lanes. */
 static inline void grimholdi_setup_set_configuration(uint8_t *setup,
                                                      uint32_t configuration)
 {
@@ -64,13 +74,17 @@ static inline void grimholdi_setup_get_configuration(uint8_t *setup)
                            GRIMHOLDI_REQUEST_GET_CONFIGURATION, 0, 0, 1);
 }
 
-/* The first `length` bytes of the hub descriptor, at most nine. */
+/*
+ * The first `length` bytes of the hub descriptor, which has nine.  The hub
+ * takes any length; one above 65,535 is written as that.
+ */
 static inline void grimholdi_setup_get_hub_descriptor(uint8_t *setup,
-                                                      uint16_t length)
+                                                      uint32_t length)
 {
     grimholdi_setup_packet(setup, GRIMHOLDI_TYPE_GET_HUB,
                            GRIMHOLDI_REQUEST_GET_DESCRIPTOR,
-                           GRIMHOLDI_HUB_DESCRIPTOR, 0, length);
+                           GRIMHOLDI_HUB_DESCRIPTOR, 0,
+                           grimholdi_setup_field(length));
 }
 
 static inline void grimholdi_setup_get_hub_status(uint8_t *setup)
@@ -87,7 +101,7 @@ static inline void grimholdi_setup_get_port_status(uint8_t *setup,
                            grimholdi_setup_field(port), 4);
 }
 
-/* ClearHubFeature: C_HUB_LOCAL_POWER or C_HUB_OVER_CURRENT. */
+/* ClearHubFeature: GRIMHOLDI_C_HUB_LOCAL_POWER or _C_HUB_OVER_CURRENT. */
 static inline void grimholdi_setup_clear_hub_feature(uint8_t *setup,
                                                      uint32_t feature)
 {
@@ -96,7 +110,10 @@ static inline void grimholdi_setup_clear_hub_feature(uint8_t *setup,
                            grimholdi_setup_field(feature), 0, 0);
 }
 
-/* ClearPortFeature: ENABLE, SUSPEND, POWER or a change, GRIMHOLDI_C_PORT_.. */
+/*
+ * ClearPortFeature: GRIMHOLDI_PORT_ENABLE, _SUSPEND or _POWER, or a change,
+ * GRIMHOLDI_C_PORT_..
+ */
 static inline void grimholdi_setup_clear_port_feature(uint8_t *setup,
                                                       uint32_t feature,
                                                       uint32_t port)
@@ -107,7 +124,7 @@ static inline void grimholdi_setup_clear_port_feature(uint8_t *setup,
                            grimholdi_setup_field(port), 0);
 }
 
-/* SetPortFeature: SUSPEND, RESET or POWER. */
+/* SetPortFeature: GRIMHOLDI_PORT_SUSPEND, _RESET or _POWER. */
 static inline void grimholdi_setup_set_port_feature(uint8_t *setup,
                                                     uint32_t feature,
                                                     uint32_t port)
