@@ -6,6 +6,31 @@
  * hands over finished events, setup packets and payloads as numbers and bytes.
  * Each call returns one answer.
  *
+ * Beside this header stand four that are all static inline:
+ * grimholdi_port.h gives a port's state and speed, grimholdi_setup.h builds
+ * setup packets, grimholdi_names.h names the numbers for a log, and
+ * grimholdi_record.h records a session.
+ *
+ * An example
+ *
+ *   A hub of 4 ports and 2 buffers.  A host configures it and powers port 1, a
+ *   full-speed device is attached there, and the host polls:
+ *
+ *     static const uint8_t configure[] = {0x00, 0x09, 1, 0, 0, 0, 0, 0};
+ *     static const uint8_t power_1[] = {0x23, 0x03, 8, 0, 1, 0, 0, 0};
+ *     uint8_t area[GRIMHOLDI_AREA_LENGTH_MAX], reply[GRIMHOLDI_REPLY_LENGTH];
+ *     size_t area_len = grimholdi_area_length(4, 2);
+ *     grimholdi_answer answer;
+ *
+ *     grimholdi_new(area, area_len, 4, 2, 50, 100, 0);
+ *     grimholdi_control(area, area_len, 0, configure, 8, reply, sizeof reply);
+ *     grimholdi_control(area, area_len, 0, power_1, 8, reply, sizeof reply);
+ *     grimholdi_line_event(area, area_len, GRIMHOLDI_EVENT_ATTACH_FULL, 1);
+ *     answer = grimholdi_poll(area, area_len, 0, reply, sizeof reply);
+ *
+ *   Every answer but the last is GRIMHOLDI_ANSWER_DONE.  The last is
+ *   GRIMHOLDI_ANSWER_DATA with one byte, 0x02: port 1 has changed.
+ *
  * The area
  *
  *   The caller keeps the hub in an area of bytes and lends it to each call.
@@ -18,6 +43,22 @@
  *   wrong length, or with bytes that are not the written form of a permitted
  *   hub, is refused with GRIMHOLDI_ANSWER_OUTSIDE.  What the calls themselves
  *   leave is always taken.
+ *
+ * A stored area
+ *
+ *   Bytes that were stored, or come over a line, are an area exactly if
+ *
+ *     grimholdi_poll(area, area_len, 0, NULL, 0).number
+ *         != GRIMHOLDI_ANSWER_OUTSIDE
+ *
+ *   The poll only reads the area, and without reply space it does nothing
+ *   else: a good area gets GRIMHOLDI_ANSWER_NO_SPACE.  A firmware that links
+ *   the explaining calls, below, may as well ask whether
+ *   grimholdi_why_tick(area, area_len).kind is GRIMHOLDI_WHY_NONE.
+ *
+ *   An area does not tell which version wrote it: store
+ *   GRIMHOLDI_VERSION_NUMBER beside it.  Nor does it know what came after it
+ *   was stored: if the host or the devices went on without it, make a new hub.
  *
  * The lanes
  *
@@ -68,6 +109,34 @@
  *   rest.  DONE and HANDSHAKE write nothing but the area.  Polls and Get
  *   requests leave the area as it is.  Setup bytes and payloads are only read.
  *
+ * What goes upstream
+ *
+ *   What the front end sends to the host for an answer to one of these calls:
+ *
+ *                control       poll         start-split  complete-split
+ *     DONE       status stage  -            ACK          -
+ *     DATA       data stage    data packet  -            data packet, `pid`
+ *     STALL      STALL         -            -            STALL
+ *     NAK        -             NAK          NAK          -
+ *     NYET       -             -            -            NYET
+ *     HANDSHAKE  -             -            -            `pid`
+ *     SILENT     -             nothing      nothing      nothing
+ *     OUTSIDE    nothing       nothing      nothing      nothing
+ *     NO_SPACE   nothing       nothing      -            nothing
+ *
+ *   "-": the call never gives this answer.  "nothing": no packet, so that the
+ *   host times out.  OUTSIDE and NO_SPACE are mistakes of the firmware, but
+ *   for a start-split that the translator does not know: one of another type
+ *   than control and bulk, or with another payload than its PID has.
+ *
+ *   A SETUP that is meant for the hub itself is always acknowledged, before
+ *   its request is handed over; the request's answer shows in the stages
+ *   behind it.  The data toggle of the status change endpoint, which polls
+ *   use, is the firmware's: it starts with DATA0 at each SetConfiguration.
+ *
+ *   Launch, deliver, line events and ticks are between the hub and the front
+ *   end, and nothing goes upstream for them.
+ *
  * Why a call is answered as it is
  *
  *   Beside each call that takes a hub stands grimholdi_why_..: it takes
@@ -87,18 +156,27 @@
  *   calls of a block, in order, on the hub of an area.  A firmware that
  *   neither records nor replays links none of them.
  *
+ * Interrupt handlers
+ *
+ *   A call never waits, allocates nothing, keeps nothing outside the memory
+ *   that it is lent, and its work is bounded (docs/SPEED.md counts the
+ *   instructions).  So every call may be made in an interrupt handler.  But
+ *   two calls with one area must not overlap: where a handler and other code
+ *   use one area, mask the interrupt around the other code's calls, or queue
+ *   in the handler what happened and make the call outside it.
+ *
  * What nothing can check
  *
  *   Each pointer must hold as many bytes as its length says, and the area, the
  *   reply space, the answers' space and a block that is being written must be
- *   writable, but for an area that is only explained.  (NULL, 0) is an empty
- *   slice; it is permitted for every pointer and length.  The area must
- *   overlap neither the reply space nor the setup or payload bytes, and the
- *   reply space must not overlap the setup bytes.  Area, block and answers'
- *   space of a replay must not overlap, nor a block and the record that is
- *   added to it.  Two calls with one area, one reply space, one answers' space
- *   or one block that is being written must not run at the same time, unless
- *   both only explain; calls with different ones may.
+ *   writable, but for an area that is only polled or explained.  (NULL, 0) is
+ *   an empty slice; it is permitted for every pointer and length.  The area
+ *   must overlap neither the reply space nor the setup or payload bytes, and
+ *   the reply space must not overlap the setup bytes.  Area, block and
+ *   answers' space of a replay must not overlap, nor a block and the record
+ *   that is added to it.  Two calls with one area, one reply space, one
+ *   answers' space or one block that is being written must not run at the
+ *   same time, unless both only explain; calls with different ones may.
  */
 
 #ifndef GRIMHOLDI_H
@@ -395,9 +473,11 @@ size_t grimholdi_area_length(uint32_t ports, uint32_t buffers);
  *   buffers     2 to 4
  *   power_good  0 to 255, time from power on to power good, in 2 ms
  *   current     0 to 255, the hub's own current, in mA
- *   removable   a byte with bit p for port p, 1: its device is not removable
- *               (DeviceRemovable, USB 2.0, 11.23.2.1); bit 0 and the bits
- *               above the last port are zero
+ *   removable   a byte with bit p for port p, as in the hub descriptor
+ *               (DeviceRemovable, USB 2.0, 11.23.2.1).  Mind the sense: a 1
+ *               says that the device on port p is NOT removable.  0: every
+ *               device can be unplugged.  Bit 0 and the bits above the last
+ *               port are zero.
  *
  * OUTSIDE  a number is outside the rules, or area_len is not
  *          grimholdi_area_length(ports, buffers)
@@ -466,6 +546,26 @@ grimholdi_answer grimholdi_new(uint8_t *area, size_t area_len,
  *
  * A port feature request that does not apply in the port's state is DONE with
  * no effect.
+ *
+ * The other requests that a host makes of every device are STALL here.  The
+ * firmware sorts them out and answers them itself: the standard requests,
+ * those with bits 5 and 6 of bmRequestType zero, but for SetConfiguration and
+ * GetConfiguration.  Hosts use
+ *
+ *   SetAddress         00 05  The new address takes effect in the front end,
+ *                             behind the status stage, and is 0 again after
+ *                             a bus reset.  The hub has none and needs no
+ *                             call.
+ *   GetDescriptor      80 06  Device, device qualifier, configuration, other
+ *                             speed configuration and string descriptors.
+ *                             The status change endpoint, which polls use,
+ *                             stands in the configuration descriptor.
+ *   GetStatus          80 00  of the device; 81 00 of the interface, 82 00 of
+ *                             an endpoint
+ *   SetFeature         00 03  of the device, say remote wakeup; 02 03 of an
+ *                             endpoint, halt
+ *   ClearFeature       00 01  and 02 01 likewise
+ *   GetInterface       81 0A  and SetInterface 01 0B
  */
 grimholdi_answer grimholdi_control(uint8_t *area, size_t area_len,
                                    uint32_t lane,
@@ -503,7 +603,10 @@ grimholdi_reason grimholdi_why_poll(const uint8_t *area, size_t area_len,
  *   pid          OUT, IN or SETUP
  *   transfer     control or bulk; SETUP is control
  *   low_speed    0 or 1
- *   toggle       0 or 1
+ *   toggle       0 or 1: OUT and SETUP: the payload's data packet is DATA0 or
+ *                DATA1, and the low side sends it so; IN: no meaning.  It is
+ *                stored and given back by the launch, and compared with
+ *                nothing; nor is the DATA0 or DATA1 that is delivered.
  *   address      0 to 127
  *   endpoint     0 to 15
  *   payload      OUT: 0 to 64 bytes; IN: none; SETUP: 8 bytes
@@ -512,7 +615,7 @@ grimholdi_reason grimholdi_why_poll(const uint8_t *area, size_t area_len,
  *          the rules
  * SILENT   the hub is unconfigured
  * DONE     a pending or ready buffer has this key: this is a repeat, and
- *          nothing is stored, whatever its PID, type or payload
+ *          nothing is stored, whatever its PID, type, toggle or payload
  * NAK      the limit: the lane holds all buffers but one pending or ready,
  *          even if the last one is free, or is old and has this key
  * NAK      no buffer has this key, and none is empty or old
@@ -636,6 +739,12 @@ grimholdi_reason grimholdi_why_deliver(const uint8_t *area, size_t area_len,
  * 11.24.2.7.2.2): no other event, no request, tick or configuration sets it,
  * also where it ends PORT_ENABLE.  Change bits stay until ClearPortFeature or
  * a bus reset clears them.
+ *
+ * No event touches the translator, a detach neither: the hub does not know
+ * which address is on which port.  What waits or runs for a device that is
+ * unplugged stays.  The front end delivers FAILURE for what runs, as for any
+ * device that does not reply, and the host empties the buffers with
+ * ClearTTBuffer or ResetTT.
  *
  * OUTSIDE  the area is refused, or a number is outside the rules
  * NOT_NOW  the hub is unconfigured, or the port is in another state

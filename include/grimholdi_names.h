@@ -6,8 +6,8 @@
  *
  * All is static inline: nothing is linked, and a firmware has the strings of
  * the functions that it uses.  Any number may be handed in; one that has no
- * name gives GRIMHOLDI_UNKNOWN.  The programs `why` and `replay` print the same
- * names.
+ * name gives GRIMHOLDI_UNKNOWN.  The programs `why` and `replay` print the
+ * same names.
  */
 
 #ifndef GRIMHOLDI_NAMES_H

@@ -6,8 +6,8 @@
  * there, and on the lines they differ.  The state stands in the port's bytes
  * of the area (docs/AREA.md), as the last call left it.
  *
- * All is static inline: nothing is linked.  The area is only read.  A call that
- * may change it must not run at the same time.
+ * All is static inline: nothing is linked.  The area is only read.  A call
+ * that may change it must not run at the same time.
  */
 
 #ifndef GRIMHOLDI_PORT_H

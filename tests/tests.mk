@@ -85,6 +85,16 @@ AREA_VIEW := $(patsubst %,tools/%.c,why/area_view why/area_fault \
 $(TARGET)/c/test_area_view: TESTED_SOURCES := $(AREA_VIEW)
 $(TARGET)/c/test_area_view: $(AREA_VIEW) $(WHY_HEADERS)
 
+# The C that stands in a section of the header's text, as it stands there.
+HEADER_EXAMPLES := $(TARGET)/c/an_example.inc $(TARGET)/c/a_stored_area.inc
+$(TARGET)/c/an_example.inc: SECTION := An example
+$(TARGET)/c/a_stored_area.inc: SECTION := A stored area
+$(HEADER_EXAMPLES): include/grimholdi.h
+	mkdir -p $(@D)
+	sed -n '/^ \* $(SECTION)$$/,/^ \* [A-Z]/s/^ \*     //p' $< > $@
+$(TARGET)/c/test_example: TEST_CFLAGS += -I$(TARGET)/c
+$(TARGET)/c/test_example: $(HEADER_EXAMPLES)
+
 # Drawn calls name the bytes of an area as the tool does.
 $(TARGET)/c/test_isolation: $(WHY_HEADERS)
 

@@ -1,7 +1,10 @@
 // The headers in C++: they compile, and their calls link.
 
 #include "grimholdi.h"
+#include "grimholdi_names.h"
+#include "grimholdi_port.h"
 #include "grimholdi_record.h"
+#include "grimholdi_setup.h"
 
 #include "check.h"
 
@@ -39,6 +42,27 @@ static void record_and_replay(uint8_t *area, size_t length)
     CHECK(replayed.length == 20);
     CHECK(answers[0] == GRIMHOLDI_ANSWER_DONE && answers[10]
           == GRIMHOLDI_ANSWER_SILENT);
+}
+
+// Configures a new hub by a packet that is built, and names its first port.
+static void build_and_name(uint8_t *area, size_t length)
+{
+    uint8_t reply[GRIMHOLDI_REPLY_LENGTH];
+    uint8_t setup[GRIMHOLDI_SETUP_LENGTH];
+
+    CHECK(grimholdi_port_state(area, length, 1)
+          == GRIMHOLDI_STATE_NOT_CONFIGURED);
+    grimholdi_setup_set_configuration(setup, 1);
+    CHECK(grimholdi_control(area, length, 0, setup, sizeof setup, reply,
+                            sizeof reply).number == GRIMHOLDI_ANSWER_DONE);
+    CHECK(grimholdi_port_speed(area, length, 1) == GRIMHOLDI_SPEED_NONE);
+    CHECK(std::strcmp(grimholdi_state_name(
+                          grimholdi_port_state(area, length, 1)),
+                      "Powered-off") == 0);
+    CHECK(std::strcmp(grimholdi_answer_name(GRIMHOLDI_ANSWER_DONE),
+                      "DONE") == 0);
+    CHECK(grimholdi_tt_value(5, 1, GRIMHOLDI_DIRECTION_IN,
+                             GRIMHOLDI_TRANSFER_BULK) == 0x9051);
 }
 
 int main()
@@ -91,5 +115,6 @@ int main()
     CHECK(grimholdi_tick(area, length).number == GRIMHOLDI_ANSWER_DONE);
     CHECK(grimholdi_bus_reset(area, length).number == GRIMHOLDI_ANSWER_DONE);
     record_and_replay(area, length);
+    build_and_name(area, length);
     return check_summary("headers in C++");
 }

@@ -1,7 +1,7 @@
 /*
  * grimholdi_names.h: each number of the interface has its name, no other has
  * one, and two of a kind have different names.  Numbers and words are those of
- * document 01, docs/AREA.md, docs/CALLS.md and docs/WHY.md.
+ * document 01, docs/AREA.md and docs/WHY.md; reasons those of grimholdi.h.
  */
 
 #include "grimholdi_names.h"
