@@ -8,6 +8,7 @@
 
 #include "check.h"
 
+#include <cstdio>
 #include <cstring>
 
 static uint8_t recording[GRIMHOLDI_BLOCK_LENGTH];
@@ -42,6 +43,18 @@ static void record_and_replay(uint8_t *area, size_t length)
     CHECK(replayed.length == 20);
     CHECK(answers[0] == GRIMHOLDI_ANSWER_DONE && answers[10]
           == GRIMHOLDI_ANSWER_SILENT);
+}
+
+// The version as three numbers, one number and text, and the library's own.
+static void check_version()
+{
+    char text[32];
+
+    std::snprintf(text, sizeof text, "%d.%d.%d", GRIMHOLDI_VERSION_MAJOR,
+                  GRIMHOLDI_VERSION_MINOR, GRIMHOLDI_VERSION_PATCH);
+    CHECK(std::strcmp(text, GRIMHOLDI_VERSION) == 0);
+    CHECK(GRIMHOLDI_VERSION_MINOR < 100 && GRIMHOLDI_VERSION_PATCH < 100);
+    CHECK(grimholdi_version() == GRIMHOLDI_VERSION_NUMBER);
 }
 
 // Configures a new hub by a packet that is built, and names its first port.
@@ -116,5 +129,6 @@ int main()
     CHECK(grimholdi_bus_reset(area, length).number == GRIMHOLDI_ANSWER_DONE);
     record_and_replay(area, length);
     build_and_name(area, length);
+    check_version();
     return check_summary("headers in C++");
 }
