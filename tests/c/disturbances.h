@@ -59,7 +59,7 @@ static inline void spread_over_current(const call *c, grimholdi_answer *answer)
 
         if (port == c->port)
             continue;
-        bytes[PORT_STATE] = STATE_POWERED_OFF;
+        bytes[PORT_STATE] = GRIMHOLDI_STATE_POWERED_OFF;
         bytes[PORT_SPEED] = 0;
         bytes[PORT_TICKS] = 0;
     }
@@ -86,7 +86,7 @@ static inline void restart_resets(const call *c, grimholdi_answer *answer)
         return;
     for (port = 1; port <= area[HEAD_PORTS]; port++)
         if (port != c->bytes[4]
-            && port_bytes(port)[PORT_STATE] == STATE_RESETTING)
+            && port_bytes(port)[PORT_STATE] == GRIMHOLDI_STATE_RESETTING)
             port_bytes(port)[PORT_TICKS] = 0;
 }
 
@@ -114,7 +114,7 @@ static inline void take_timers_back(const call *c, grimholdi_answer *answer)
     uint32_t port;
 
     (void)answer;
-    if (c->kind != TICK || !port_1_is(STATE_SUSPENDED))
+    if (c->kind != TICK || !port_1_is(GRIMHOLDI_STATE_SUSPENDED))
         return;
     for (port = 2; port <= area[HEAD_PORTS]; port++)
         port_bytes(port)[PORT_TICKS] = 0;
@@ -136,7 +136,8 @@ static inline void spread_speed(const call *c, grimholdi_answer *answer)
     if (!is_attach(c, answer))
         return;
     for (port = 1; port <= area[HEAD_PORTS]; port++)
-        if (port != c->port && port_bytes(port)[PORT_STATE] == STATE_DISABLED)
+        if (port != c->port
+            && port_bytes(port)[PORT_STATE] == GRIMHOLDI_STATE_DISABLED)
             port_bytes(port)[PORT_SPEED] = port_bytes(c->port)[PORT_SPEED];
 }
 
@@ -157,7 +158,7 @@ static inline void give_status_of_1(const call *c, grimholdi_answer *answer)
 /* While port 1 is Resuming, a launch gives the other speed. */
 static inline void launch_other_speed(const call *c, grimholdi_answer *answer)
 {
-    if (is_launched(c, answer) && port_1_is(STATE_RESUMING))
+    if (is_launched(c, answer) && port_1_is(GRIMHOLDI_STATE_RESUMING))
         answer->low_speed ^= 1;
 }
 

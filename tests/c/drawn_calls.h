@@ -161,20 +161,20 @@ static inline call moving(uint32_t port)
     const uint8_t *bytes = port_bytes(port);
 
     switch (bytes[PORT_STATE]) {
-    case STATE_POWERED_OFF: /* over-current may hold */
+    case GRIMHOLDI_STATE_POWERED_OFF: /* over-current may hold */
         return one_in(4) ? event_at(GRIMHOLDI_EVENT_OVER_CURRENT_OFF, port)
                          : setting(GRIMHOLDI_PORT_POWER, port);
-    case STATE_DISCONNECTED:
+    case GRIMHOLDI_STATE_DISCONNECTED:
         return event_at(draw(2) ? GRIMHOLDI_EVENT_ATTACH_LOW
                                 : GRIMHOLDI_EVENT_ATTACH_FULL, port);
-    case STATE_RESETTING:
-        return bytes[PORT_SPEED] == SPEED_FULL || one_in(4)
+    case GRIMHOLDI_STATE_RESETTING:
+        return bytes[PORT_SPEED] == GRIMHOLDI_SPEED_FULL || one_in(4)
                    ? event_at(GRIMHOLDI_EVENT_CHIRP, port) : status_of(port);
-    case STATE_ENABLED:
+    case GRIMHOLDI_STATE_ENABLED:
         return moving_enabled(port);
-    case STATE_SUSPENDED:
+    case GRIMHOLDI_STATE_SUSPENDED:
         return moving_suspended(port);
-    case STATE_RESUMING:
+    case GRIMHOLDI_STATE_RESUMING:
         return status_of(port);
     default: /* Disabled; no effect in Not Configured */
         return setting(GRIMHOLDI_PORT_RESET, port);

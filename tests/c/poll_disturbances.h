@@ -72,7 +72,7 @@ static inline void hold_only_back(const call *c, grimholdi_answer *answer)
 static inline void give_no_bit(const call *c, grimholdi_answer *answer)
 {
     if (!is_poll(c, answer, GRIMHOLDI_ANSWER_NAK)
-        || !port_1_is(STATE_DISCONNECTED))
+        || !port_1_is(GRIMHOLDI_STATE_DISCONNECTED))
         return;
     answer->number = GRIMHOLDI_ANSWER_DATA;
     answer->length = 1;
@@ -82,7 +82,8 @@ static inline void give_no_bit(const call *c, grimholdi_answer *answer)
 /* While port 1 is Resuming, the byte of a poll comes with a PID. */
 static inline void give_pid(const call *c, grimholdi_answer *answer)
 {
-    if (is_poll(c, answer, GRIMHOLDI_ANSWER_DATA) && port_1_is(STATE_RESUMING))
+    if (is_poll(c, answer, GRIMHOLDI_ANSWER_DATA)
+        && port_1_is(GRIMHOLDI_STATE_RESUMING))
         answer->pid = GRIMHOLDI_RESULT_DATA0;
 }
 
@@ -90,7 +91,7 @@ static inline void give_pid(const call *c, grimholdi_answer *answer)
 static inline void give_nak_pid(const call *c, grimholdi_answer *answer)
 {
     if (is_poll(c, answer, GRIMHOLDI_ANSWER_NAK)
-        && port_1_is(STATE_DISCONNECTED))
+        && port_1_is(GRIMHOLDI_STATE_DISCONNECTED))
         answer->pid = GRIMHOLDI_RESULT_NAK;
 }
 

@@ -182,7 +182,8 @@ static inline void check_met(const tally *t)
         CHECK(all_met(t->lanes[kind], 0, GRIMHOLDI_LANE_MAX));
     check_numbers(t);
     CHECK(all_met(t->looks, EVENT_AT_NO_PORT, REQUEST_MISSIZED));
-    CHECK(all_met(t->states, STATE_NOT_CONFIGURED, STATE_RESUMING));
+    CHECK(all_met(t->states, GRIMHOLDI_STATE_NOT_CONFIGURED,
+                  GRIMHOLDI_STATE_RESUMING));
     CHECK(all_met(t->low_sides, LOW_SIDE_FREE, LOW_SIDE_ABANDONED));
     CHECK(all_met(t->polls, SAME_BITS, REFUSED));
 }

@@ -194,18 +194,20 @@ static void viewed_head_and_ports(void)
     CHECK(view.power_good == 0x32 && view.current == 0x64);
     CHECK(view.removable == 0xFE && view.configured == 1);
     CHECK(view.low_side == LOW_SIDE_RUNNING && view.running == 0);
-    CHECK(port_is(&view.port[0], STATE_POWERED_OFF, 0, 0,
+    CHECK(port_is(&view.port[0], GRIMHOLDI_STATE_POWERED_OFF, 0, 0,
                   GRIMHOLDI_CHANGE_OVER_CURRENT, 1));
-    CHECK(port_is(&view.port[1], STATE_DISCONNECTED, 0, 0,
+    CHECK(port_is(&view.port[1], GRIMHOLDI_STATE_DISCONNECTED, 0, 0,
                   GRIMHOLDI_CHANGE_CONNECTION, 0));
-    CHECK(port_is(&view.port[2], STATE_DISABLED, SPEED_LOW, 0,
-                  GRIMHOLDI_CHANGE_ENABLE, 0));
-    CHECK(port_is(&view.port[3], STATE_RESETTING, SPEED_FULL, 14,
-                  GRIMHOLDI_CHANGE_RESET, 0));
-    CHECK(port_is(&view.port[4], STATE_ENABLED, SPEED_HIGH, 0, 0, 0));
-    CHECK(port_is(&view.port[5], STATE_SUSPENDED, SPEED_FULL, 0, 0x1F, 0));
-    CHECK(port_is(&view.port[6], STATE_RESUMING, SPEED_HIGH, 21,
-                  GRIMHOLDI_CHANGE_SUSPEND, 0));
+    CHECK(port_is(&view.port[2], GRIMHOLDI_STATE_DISABLED,
+                  GRIMHOLDI_SPEED_LOW, 0, GRIMHOLDI_CHANGE_ENABLE, 0));
+    CHECK(port_is(&view.port[3], GRIMHOLDI_STATE_RESETTING,
+                  GRIMHOLDI_SPEED_FULL, 14, GRIMHOLDI_CHANGE_RESET, 0));
+    CHECK(port_is(&view.port[4], GRIMHOLDI_STATE_ENABLED,
+                  GRIMHOLDI_SPEED_HIGH, 0, 0, 0));
+    CHECK(port_is(&view.port[5], GRIMHOLDI_STATE_SUSPENDED,
+                  GRIMHOLDI_SPEED_FULL, 0, 0x1F, 0));
+    CHECK(port_is(&view.port[6], GRIMHOLDI_STATE_RESUMING,
+                  GRIMHOLDI_SPEED_HIGH, 21, GRIMHOLDI_CHANGE_SUSPEND, 0));
     setup_area();
     view = view_area(area);
     CHECK(view.running == 1 && view.power_good == 0 && view.current == 255);

@@ -8,7 +8,7 @@
 
 static void print_number(call_field field, uint32_t number)
 {
-    const named *names = field_forms[field].names;
+    naming *names = field_forms[field].names;
     const char *name = names == NULL ? NULL : name_of(names, number);
 
     if (name != NULL)
@@ -67,13 +67,13 @@ static void print_reply(const uint8_t *reply, unsigned length)
 void print_answer(const call *made, const grimholdi_answer *answer,
                   const uint8_t *reply)
 {
-    printf("%s", name_of(answer_names, answer->number));
+    printf("%s", grimholdi_answer_name(answer->number));
     if (answer->number == GRIMHOLDI_ANSWER_HANDSHAKE)
-        printf(" %s", name_of(result_names, answer->pid));
+        printf(" %s", grimholdi_result_name(answer->pid));
     if (answer->number != GRIMHOLDI_ANSWER_DATA)
         return;
     if (made->kind == CALL_COMPLETE_SPLIT)
-        printf(" %s", name_of(result_names, answer->pid));
+        printf(" %s", grimholdi_result_name(answer->pid));
     if (made->kind == CALL_LAUNCH) {
         printf(" ");
         print_launched(answer);

@@ -84,7 +84,7 @@ static void name_numbers(const uint32_t *numbers, char fault[FAULT_LENGTH])
     unsigned i;
 
     fault_says(fault, "%s (%d)",
-               name_of(answer_names, GRIMHOLDI_ANSWER_OUTSIDE),
+               grimholdi_answer_name(GRIMHOLDI_ANSWER_OUTSIDE),
                GRIMHOLDI_ANSWER_OUTSIDE);
     for (i = 0; i < HUB_NUMBERS; i++)
         if (number_fault((hub_number)i, numbers, one)) {

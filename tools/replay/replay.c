@@ -148,7 +148,7 @@ static int finish(const session *of, const char *name, int raw,
                         place, strerror(of->read_error));
     if (last->number != GRIMHOLDI_ANSWER_DONE)
         return complain(NOT_REPLAYED, "%s: block %lu: the library answers %s",
-                        name, place, name_of(answer_names, last->number));
+                        name, place, grimholdi_answer_name(last->number));
     if (last->refusal == GRIMHOLDI_REFUSED_NOT)
         return ferror(stderr) ? NOT_REPLAYED : REPLAYED;
     block_fault(last->refusal, (uint32_t)place, of->block, of->block_len,

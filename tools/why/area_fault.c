@@ -65,19 +65,21 @@ static int ticks_fault(const uint8_t *port, unsigned number, unsigned at,
 {
     unsigned state = port[PORT_STATE];
     unsigned ticks = port[PORT_TICKS];
-    unsigned most = state == STATE_RESETTING ? GRIMHOLDI_RESET_TICKS - 1
-                    : state == STATE_RESUMING ? GRIMHOLDI_RESUME_TICKS - 1
-                    : 0;
+    unsigned most = 0;
 
+    if (state == GRIMHOLDI_STATE_RESETTING)
+        most = GRIMHOLDI_RESET_TICKS - 1;
+    if (state == GRIMHOLDI_STATE_RESUMING)
+        most = GRIMHOLDI_RESUME_TICKS - 1;
     if (ticks <= most)
         return 0;
     if (most == 0)
         return fault_says(fault, "byte %u: port %u has %u tick%s; %s has 0",
                           at + PORT_TICKS, number, ticks, plural(ticks),
-                          name_of(state_names, state));
+                          grimholdi_state_name(state));
     return fault_says(fault, "byte %u: port %u has %u tick%s; %s has 0 to %u",
                       at + PORT_TICKS, number, ticks, plural(ticks),
-                      name_of(state_names, state), most);
+                      grimholdi_state_name(state), most);
 }
 
 static int port_fault(const uint8_t *area, unsigned number,
@@ -88,24 +90,24 @@ static int port_fault(const uint8_t *area, unsigned number,
     unsigned state = port[PORT_STATE];
     unsigned speed = port[PORT_SPEED];
 
-    if (state > STATE_RESUMING)
+    if (state > GRIMHOLDI_STATE_RESUMING)
         return fault_says(fault, "byte %u: port %u is in state %u; 0 to 7 are "
                           "permitted", at + PORT_STATE, number, state);
-    if (area[HEAD_CONFIGURED] && state == STATE_NOT_CONFIGURED)
+    if (area[HEAD_CONFIGURED] && state == GRIMHOLDI_STATE_NOT_CONFIGURED)
         return fault_says(fault, "byte %u: port %u is in state 0; the hub is "
                           "configured, 1 to 7 are permitted", at + PORT_STATE,
                           number);
-    if (!area[HEAD_CONFIGURED] && state != STATE_NOT_CONFIGURED)
+    if (!area[HEAD_CONFIGURED] && state != GRIMHOLDI_STATE_NOT_CONFIGURED)
         return fault_says(fault, "byte %u: port %u is in state %u; the hub is "
                           "unconfigured, 0 is permitted", at + PORT_STATE,
                           number, state);
-    if (speed > SPEED_HIGH)
+    if (speed > GRIMHOLDI_SPEED_HIGH)
         return fault_says(fault, "byte %u: port %u has speed %u; 0 to 2 are "
                           "permitted", at + PORT_SPEED, number, speed);
-    if (state < STATE_DISABLED && speed != 0)
+    if (state < GRIMHOLDI_STATE_DISABLED && speed != 0)
         return fault_says(fault, "byte %u: port %u has speed %u; %s has 0",
                           at + PORT_SPEED, number, speed,
-                          name_of(state_names, state));
+                          grimholdi_state_name(state));
     if (ticks_fault(port, number, at, fault))
         return 1;
     if (port[PORT_MARKS] > MARKS)
@@ -136,11 +138,11 @@ static int token_fault(const uint8_t *buffer, unsigned number, unsigned at,
     unsigned pid = buffer[BUFFER_PID];
     unsigned transfer = buffer[BUFFER_TRANSFER];
 
-    if (name_of(pid_names, pid) == NULL)
+    if (name_of(grimholdi_pid_name, pid) == NULL)
         return fault_says(fault, "byte %u: buffer %u has PID %u; OUT 1, IN 9 "
                           "and SETUP 13 are permitted", at + BUFFER_PID,
                           number, pid);
-    if (name_of(transfer_names, transfer) == NULL)
+    if (name_of(grimholdi_transfer_name, transfer) == NULL)
         return fault_says(fault, "byte %u: buffer %u has type %u; control 0 "
                           "and bulk 2 are permitted", at + BUFFER_TRANSFER,
                           number, transfer);
@@ -182,8 +184,8 @@ static int result_fault(const uint8_t *buffer, unsigned number, unsigned at,
                           BYTE_COUNT "; %s has %s",
                           at + BUFFER_PAYLOAD_LENGTH, number,
                           BYTE_COUNT_OF(length),
-                          is_pending ? name_of(pid_names, pid)
-                                     : name_of(result_names, result),
+                          is_pending ? grimholdi_pid_name(pid)
+                                     : grimholdi_result_name(result),
                           lengths->text);
     return 0;
 }
@@ -231,7 +233,7 @@ static int pair_fault(const area_view *view, unsigned number,
             return fault_says(fault, "buffers %u and %u have the same key, "
                               "lane %u (%u,%u %s)", i, number, buffer->lane,
                               buffer->address, buffer->endpoint,
-                              name_of(direction_names, buffer->direction));
+                              grimholdi_direction_name(buffer->direction));
         if (buffer->status == STATUS_PENDING
             && other->status == STATUS_PENDING
             && buffer->place == other->place)
@@ -260,8 +262,7 @@ static int hub_fault(const area_view *view, char fault[FAULT_LENGTH])
         && running->status != STATUS_PENDING)
         return fault_says(fault, "byte %u: buffer %u runs and is %s; a "
                           "running one is pending", HEAD_RUNNING,
-                          view->running, name_of(status_names,
-                                                 running->status));
+                          view->running, status_name(running->status));
     return 0;
 }
 

@@ -4,32 +4,17 @@
 
 #include "area_layout.h"
 
-const named state_names[] = {
-    {"Not Configured", STATE_NOT_CONFIGURED},
-    {"Powered-off", STATE_POWERED_OFF},
-    {"Disconnected", STATE_DISCONNECTED},
-    {"Disabled", STATE_DISABLED},
-    {"Resetting", STATE_RESETTING},
-    {"Enabled", STATE_ENABLED},
-    {"Suspended", STATE_SUSPENDED},
-    {"Resuming", STATE_RESUMING},
-    {NULL, 0}
-};
+const char *status_name(uint32_t status)
+{
+    static const char *const names[] = {
+        [STATUS_EMPTY] = "empty",
+        [STATUS_PENDING] = "pending",
+        [STATUS_READY] = "ready",
+        [STATUS_OLD] = "old"
+    };
 
-const named port_speed_names[] = {
-    {"low", SPEED_LOW},
-    {"full", SPEED_FULL},
-    {"high", SPEED_HIGH},
-    {NULL, 0}
-};
-
-const named status_names[] = {
-    {"empty", STATUS_EMPTY},
-    {"pending", STATUS_PENDING},
-    {"ready", STATUS_READY},
-    {"old", STATUS_OLD},
-    {NULL, 0}
-};
+    return names[status];
+}
 
 static port_view view_port(const uint8_t *bytes)
 {

@@ -4,28 +4,20 @@
 #define AREA_VIEW_H
 
 #include "grimholdi.h"
+#include "grimholdi_port.h"
 
 #include "../words/names.h"
 
 enum { LOW_SIDE_FREE, LOW_SIDE_RUNNING, LOW_SIDE_ABANDONED };
 
-enum {
-    STATE_NOT_CONFIGURED, STATE_POWERED_OFF, STATE_DISCONNECTED,
-    STATE_DISABLED, STATE_RESETTING, STATE_ENABLED, STATE_SUSPENDED,
-    STATE_RESUMING
-};
-
-enum { SPEED_LOW, SPEED_FULL, SPEED_HIGH };
-
 enum { STATUS_EMPTY, STATUS_PENDING, STATUS_READY, STATUS_OLD };
 
-extern const named state_names[];      /* of ports */
-extern const named port_speed_names[];
-extern const named status_names[];     /* of buffers */
+/* Of a buffer, STATUS_.. */
+const char *status_name(uint32_t status);
 
 typedef struct {
-    uint8_t state;        /* STATE_.. */
-    uint8_t speed;        /* SPEED_.. */
+    uint8_t state;        /* GRIMHOLDI_STATE_.. */
+    uint8_t speed;        /* GRIMHOLDI_SPEED_..; 0 without a device */
     uint8_t ticks;
     uint8_t changes;      /* GRIMHOLDI_CHANGE_.. */
     uint8_t over_current; /* the level, 0 or 1 */

@@ -25,7 +25,7 @@ static void print_held(const area_view *view, int of_all_lanes, uint32_t lane)
         if (!buffer_is_held(buffer) || !(of_all_lanes || buffer->lane == lane))
             continue;
         printf("%sbuffer %u %s ", before, i,
-               name_of(status_names, buffer->status));
+               status_name(buffer->status));
         if (of_all_lanes)
             printf("lane %u ", buffer->lane);
         print_key(buffer->address, buffer->endpoint, buffer->direction);
@@ -55,7 +55,7 @@ static void print_took_free(const area_view *view, const call *call_of,
     printf(", no buffer has this key ");
     print_own_key(call_of);
     printf(", and buffer %u is %s", number,
-           name_of(status_names, buffer->status));
+           status_name(buffer->status));
     if (buffer->status != STATUS_EMPTY) {
         printf(" lane %u ", buffer->lane);
         print_key(buffer->address, buffer->endpoint, buffer->direction);
@@ -72,7 +72,7 @@ static void print_start_split(const area_view *view, const call *call_of,
     switch (reason->kind) {
     case GRIMHOLDI_WHY_HELD:
         printf("buffer %u is %s with this key ", number,
-               name_of(status_names, view->buffer[number].status));
+               status_name(view->buffer[number].status));
         print_own_key(call_of);
         printf(": a repeat, nothing is stored");
         break;
@@ -119,11 +119,11 @@ static void print_answer(const call *call_of, const grimholdi_answer *answer)
         printf("nothing to give; ");
     if (answer->number == GRIMHOLDI_ANSWER_HANDSHAKE)
         printf("the device's handshake is %s; ",
-               name_of(result_names, answer->pid));
+               grimholdi_result_name(answer->pid));
     if (answer->number != GRIMHOLDI_ANSWER_DATA)
         return;
     if (call_of->kind == CALL_COMPLETE_SPLIT)
-        printf("%s, ", name_of(result_names, answer->pid));
+        printf("%s, ", grimholdi_result_name(answer->pid));
     if (call_of->kind == CALL_LAUNCH) {
         print_launched(answer);
         printf(", ");
@@ -141,7 +141,7 @@ void print_reason(const area_view *view, const call *call_of,
         print_refusal(reason->value, view, call_of);
         return;
     }
-    printf("%s: ", name_of(answer_names, answer->number));
+    printf("%s: ", grimholdi_answer_name(answer->number));
     switch (reason->kind) {
     case GRIMHOLDI_WHY_NONE:
         print_answer(call_of, answer);

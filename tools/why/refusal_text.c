@@ -49,7 +49,7 @@ static int start_split_outside(const call *call_of)
 
     if (setup_is_bulk)
         printf("OUTSIDE: type is bulk; SETUP is control\n");
-    return length_outside(start_lengths(pid), name_of(pid_names, pid),
+    return length_outside(start_lengths(pid), grimholdi_pid_name(pid),
                           call_of->bytes_len)
            | setup_is_bulk;
 }
@@ -78,7 +78,7 @@ static void print_outside(const area_view *view, const call *call_of)
         found |= start_split_outside(call_of);
     if (call_of->kind == CALL_DELIVER)
         found |= length_outside(result_lengths(result),
-                                name_of(result_names, result),
+                                grimholdi_result_name(result),
                                 call_of->bytes_len);
     if (call_of->kind == CALL_CONTROL)
         found |= setup_outside(call_of->bytes_len);
@@ -107,7 +107,7 @@ static void print_event_not_now(const area_view *view, uint32_t event,
     }
     printf("port %lu is ", (unsigned long)port);
     print_port_state(&view->port[port - 1]);
-    printf("; %s is taken in %s", name_of(event_names, event),
+    printf("; %s is taken in %s", grimholdi_event_name(event),
            event_states[event]);
 }
 
@@ -119,8 +119,8 @@ static void print_result_not_now(const area_view *view, uint32_t result)
         print_low_side(view);
     else
         printf("buffer %u runs %s; %s does not suit it, %s do",
-               view->running, name_of(pid_names, pid),
-               name_of(result_names, result), suiting_results(pid));
+               view->running, grimholdi_pid_name(pid),
+               grimholdi_result_name(result), suiting_results(pid));
 }
 
 static void print_not_now(const area_view *view, const call *call_of)

@@ -7,19 +7,19 @@
 
 void print_port_state(const port_view *port)
 {
-    printf("%s", name_of(state_names, port->state));
-    if (port->state >= STATE_DISABLED)
-        printf(", %s speed", name_of(port_speed_names, port->speed));
+    printf("%s", grimholdi_state_name(port->state));
+    if (port->state >= GRIMHOLDI_STATE_DISABLED)
+        printf(", %s speed", grimholdi_speed_name(port->speed));
 }
 
 void print_changes(unsigned changes)
 {
-    const named *change;
     const char *before = "";
+    unsigned bit;
 
-    for (change = change_names; change->name != NULL; change++)
-        if (changes & change->number) {
-            printf("%s%s", before, change->name);
+    for (bit = 1; bit <= changes; bit <<= 1)
+        if (changes & bit) {
+            printf("%s%s", before, grimholdi_change_name(bit));
             before = ", ";
         }
 }
@@ -43,7 +43,8 @@ static void print_port(const port_view *port, unsigned number)
 {
     printf("port %u: ", number);
     print_port_state(port);
-    if (port->state == STATE_RESETTING || port->state == STATE_RESUMING)
+    if (port->state == GRIMHOLDI_STATE_RESETTING
+        || port->state == GRIMHOLDI_STATE_RESUMING)
         printf(", %u tick%s", port->ticks, plural(port->ticks));
     if (port->over_current)
         printf(", over-current");
@@ -56,7 +57,7 @@ static void print_port(const port_view *port, unsigned number)
 
 static void print_buffer(const buffer_view *buffer, unsigned number)
 {
-    printf("buffer %u: %s", number, name_of(status_names, buffer->status));
+    printf("buffer %u: %s", number, status_name(buffer->status));
     if (buffer->status == STATUS_EMPTY) {
         printf("\n");
         return;
@@ -64,13 +65,13 @@ static void print_buffer(const buffer_view *buffer, unsigned number)
     if (buffer->status == STATUS_PENDING)
         printf(" at place %u", buffer->place);
     else
-        printf(" with %s", name_of(result_names, buffer->result));
+        printf(" with %s", grimholdi_result_name(buffer->result));
     printf(", lane %u ", buffer->lane);
     print_key(buffer->address, buffer->endpoint, buffer->direction);
     printf(", %s %s, %s speed, toggle %u, ",
-           name_of(pid_names, buffer->pid),
-           name_of(transfer_names, buffer->transfer),
-           name_of(speed_names, buffer->low_speed), buffer->toggle);
+           grimholdi_pid_name(buffer->pid),
+           grimholdi_transfer_name(buffer->transfer),
+           grimholdi_low_speed_name(buffer->low_speed), buffer->toggle);
     print_count("payload", buffer->payload_length);
     printf("\n");
 }

@@ -44,7 +44,7 @@ const length_rule *result_lengths(uint32_t result)
     static const length_rule data = {0, GRIMHOLDI_PAYLOAD_MAX, "0 to 64"};
     static const length_rule handshake = {0, 0, "none"};
 
-    if (name_of(result_names, result) == NULL)
+    if (name_of(grimholdi_result_name, result) == NULL)
         return NULL;
     return result == GRIMHOLDI_RESULT_DATA0 || result == GRIMHOLDI_RESULT_DATA1
            ? &data : &handshake;

@@ -4,21 +4,23 @@
 
 const field_form field_forms[FIELDS] = {
     [FIELD_LANE] = {"LANE", "lane", NULL, GRIMHOLDI_LANE_MAX, "0 and 1"},
-    [FIELD_PID] = {"PID", "PID", pid_names, 0, "OUT 1, IN 9 and SETUP 13"},
-    [FIELD_TYPE] = {"TYPE", "type", transfer_names, 0,
+    [FIELD_PID] = {"PID", "PID", grimholdi_pid_name, 0,
+                   "OUT 1, IN 9 and SETUP 13"},
+    [FIELD_TYPE] = {"TYPE", "type", grimholdi_transfer_name, 0,
                     "control 0 and bulk 2"},
-    [FIELD_SPEED] = {"SPEED", "speed", speed_names, 0, "full 0 and low 1"},
+    [FIELD_SPEED] = {"SPEED", "speed", grimholdi_low_speed_name, 0,
+                     "full 0 and low 1"},
     [FIELD_TOGGLE] = {"TOGGLE", "toggle", NULL, 1, "0 and 1"},
     [FIELD_ADDRESS] = {"ADDRESS", "address", NULL, GRIMHOLDI_ADDRESS_MAX,
                        "0 to 127"},
     [FIELD_ENDPOINT] = {"ENDPOINT", "endpoint", NULL, GRIMHOLDI_ENDPOINT_MAX,
                         "0 to 15"},
-    [FIELD_DIRECTION] = {"DIRECTION", "direction", direction_names, 0,
-                         "OUT 0 and IN 1"},
-    [FIELD_RESULT] = {"RESULT", "result", result_names, 0,
+    [FIELD_DIRECTION] = {"DIRECTION", "direction",
+                         grimholdi_direction_name, 0, "OUT 0 and IN 1"},
+    [FIELD_RESULT] = {"RESULT", "result", grimholdi_result_name, 0,
                       "failure 0, ACK 2, DATA0 3, NAK 10, DATA1 11 and "
                       "STALL 14"},
-    [FIELD_EVENT] = {"EVENT", "event", event_names, 0, "0 to 7"},
+    [FIELD_EVENT] = {"EVENT", "event", grimholdi_event_name, 0, "0 to 7"},
     [FIELD_PORT] = {"PORT", "port", NULL, 0, NULL}
 };
 

@@ -34,7 +34,7 @@ typedef struct {
 typedef struct {
     const char *word;      /* in the form of a call: "LANE" */
     const char *name;      /* in sentences: "lane" */
-    const named *names;    /* of its numbers, or NULL */
+    naming *names;         /* of its numbers, or NULL */
     uint32_t most;         /* without names: 0 to this; a port: the hub's */
     const char *permitted; /* "0 and 1" */
 } field_form;

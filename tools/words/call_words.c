@@ -73,14 +73,15 @@ static int read_field(const field_form *form, const char *word,
                       uint32_t *number, char fault[FAULT_LENGTH])
 {
     char list[LIST_LENGTH] = "";
-    const named *names;
+    uint32_t i;
 
     if (form->names == NULL || isdigit((unsigned char)word[0]))
         return read_number(word, form->name, number, fault);
     if (number_of(form->names, word, number))
         return 1;
-    for (names = form->names; names->name != NULL; names++)
-        add_item(list, names->name);
+    for (i = 0; i <= NAMED_MAX; i++)
+        if (name_of(form->names, i) != NULL)
+            add_item(list, name_of(form->names, i));
     return !fault_says(fault, WORD " is no %s; it is a number or one of %s",
                        word, form->name, list);
 }

@@ -1,29 +1,21 @@
-/* The names of the interface's numbers. */
+/* The names of the interface's numbers, which grimholdi_names.h gives. */
 
 #ifndef NAMES_H
 #define NAMES_H
 
-#include <stdint.h>
+#include "grimholdi_names.h"
 
-typedef struct {
-    const char *name; /* NULL ends a table */
-    uint32_t number;
-} named;
+/* One kind of numbers: a function of grimholdi_names.h. */
+typedef const char *naming(uint32_t number);
 
-extern const named pid_names[];
-extern const named transfer_names[];
-extern const named speed_names[];     /* of a start-split: low_speed */
-extern const named direction_names[];
-extern const named result_names[];
-extern const named event_names[];
-extern const named answer_names[];
-extern const named change_names[];    /* by change bit */
+/* No number with a name is higher. */
+enum { NAMED_MAX = 255 };
 
 /* NULL where the number has no name. */
-const char *name_of(const named *names, uint32_t number);
+const char *name_of(naming *names, uint32_t number);
 
 /* Finds a word, in any case; 0 where it names nothing. */
-int number_of(const named *names, const char *word, uint32_t *number);
+int number_of(naming *names, const char *word, uint32_t *number);
 
 /* Equal, in any case. */
 int same_word(const char *one, const char *other);

@@ -8,16 +8,16 @@
 void print_key(unsigned address, unsigned endpoint, unsigned direction)
 {
     printf("(%u,%u %s)", address, endpoint,
-           name_of(direction_names, direction));
+           grimholdi_direction_name(direction));
 }
 
 void print_launched(const grimholdi_answer *answer)
 {
     printf("lane %u ", answer->lane);
     print_key(answer->address, answer->endpoint, answer->direction);
-    printf(", %s %s, %s speed, toggle %u", name_of(pid_names, answer->pid),
-           name_of(transfer_names, answer->transfer),
-           name_of(speed_names, answer->low_speed), answer->toggle);
+    printf(", %s %s, %s speed, toggle %u", grimholdi_pid_name(answer->pid),
+           grimholdi_transfer_name(answer->transfer),
+           grimholdi_low_speed_name(answer->low_speed), answer->toggle);
 }
 
 void print_count(const char *what, size_t count)
