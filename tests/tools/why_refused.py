@@ -70,6 +70,7 @@ BAD_CALLS = [
      "deliver lacks RESULT; its words are deliver RESULT [PAYLOAD]"),
     (["deliver", "NYET"], "'NYET' is no result; " + RESULTS),
     (["line-event", "unplug", "1"], "'unplug' is no event; " + EVENTS),
+    (["line-event", "unknown", "1"], "'unknown' is no event; " + EVENTS),
     (["line-event", "detach"],
      "line-event lacks PORT; its words are line-event EVENT PORT"),
     (["line-event", "detach", "one"], "'one' is no port; " + NUMBERS),
