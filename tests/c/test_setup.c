@@ -332,6 +332,8 @@ static void far_keys(void)
 
     for (i = 0; i < sizeof keys / sizeof *keys; i++) {
         held_keys();
+        CHECK(grimholdi_tt_value(keys[i][0], keys[i][1], keys[i][2],
+                                 keys[i][3]) == 0xFFFF);
         grimholdi_setup_clear_tt_buffer(setup, keys[i][0], keys[i][1],
                                         keys[i][2], keys[i][3]);
         CHECK(is_stall());
