@@ -139,6 +139,43 @@ static void control_refusals(void)
     LEAVES_ALL(GRIMHOLDI_ANSWER_NO_SPACE, setup_of(8, 63));
 }
 
+/* Standard requests that the firmware answers itself, as a host sends them. */
+static void firmware_requests(void)
+{
+    static const struct {
+        uint8_t type, code;
+        uint16_t value, index, length;
+    } own[] = {
+        {0x00, 0x05, 9, 0, 0},          /* SetAddress */
+        {0x80, 0x06, 0x0100, 0, 18},    /* GetDescriptor: device, */
+        {0x80, 0x06, 0x0200, 0, 9},     /* configuration, */
+        {0x80, 0x06, 0x0300, 0, 255},   /* string, */
+        {0x80, 0x06, 0x0600, 0, 10},    /* device qualifier, */
+        {0x80, 0x06, 0x0700, 0, 9},     /* other speed configuration */
+        {0x80, 0x00, 0, 0, 2},          /* GetStatus: device, */
+        {0x81, 0x00, 0, 0, 2},          /* interface, */
+        {0x82, 0x00, 0, 0x0081, 2},     /* endpoint */
+        {0x00, 0x03, 1, 0, 0},          /* SetFeature: remote wakeup, */
+        {0x02, 0x03, 0, 0x0081, 0},     /* halt */
+        {0x00, 0x01, 1, 0, 0},          /* ClearFeature: remote wakeup, */
+        {0x02, 0x01, 0, 0x0081, 0},     /* halt */
+        {0x81, 0x0A, 0, 0, 1},          /* GetInterface */
+        {0x01, 0x0B, 0, 0, 0}           /* SetInterface */
+    };
+    size_t i;
+
+    for (i = 0; i < sizeof own / sizeof *own; i++) {
+        new_hub(4, 3);
+        LEAVES_ALL(GRIMHOLDI_ANSWER_STALL,
+                   request(own[i].type, own[i].code, own[i].value,
+                           own[i].index, own[i].length));
+        configured_hub(4, 3);
+        LEAVES_ALL(GRIMHOLDI_ANSWER_STALL,
+                   request(own[i].type, own[i].code, own[i].value,
+                           own[i].index, own[i].length));
+    }
+}
+
 static void poll_refusals(void)
 {
     new_hub(4, 3);
@@ -414,6 +451,7 @@ static void lane_refusals(void)
 int main(void)
 {
     control_refusals();
+    firmware_requests();
     poll_refusals();
     start_split_refusals();
     complete_split_refusals();

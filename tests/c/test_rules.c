@@ -387,6 +387,67 @@ static void repeats_and_reuse(void)
           == GRIMHOLDI_ANSWER_STALL);
 }
 
+static uint8_t start_toggled(uint32_t pid, uint32_t toggle)
+{
+    static const uint8_t payload[8] = {0};
+    int is_in = pid == GRIMHOLDI_PID_IN;
+
+    return grimholdi_start_split(area, area_len, 0, pid,
+                                 GRIMHOLDI_TRANSFER_CONTROL, 0, toggle, 5, 0,
+                                 is_in ? NULL : payload,
+                                 is_in ? 0 : sizeof payload).number;
+}
+
+/* It is stored and launched; a repeat's is dropped; none is compared. */
+static void toggles(void)
+{
+    static const uint32_t pids[] = {GRIMHOLDI_PID_OUT, GRIMHOLDI_PID_IN,
+                                    GRIMHOLDI_PID_SETUP};
+    uint32_t toggle;
+    size_t i;
+
+    for (i = 0; i < 3; i++)
+        for (toggle = 0; toggle < 2; toggle++) {
+            configured_hub(2, 2);
+            CHECK(start_toggled(pids[i], toggle) == GRIMHOLDI_ANSWER_DONE);
+            CHECK(start_toggled(pids[i], !toggle) == GRIMHOLDI_ANSWER_DONE);
+            CHECK(launch().toggle == toggle);
+        }
+    for (toggle = 0; toggle < 2; toggle++) {
+        configured_hub(2, 2);
+        CHECK(start_toggled(GRIMHOLDI_PID_IN, toggle)
+              == GRIMHOLDI_ANSWER_DONE);
+        CHECK(launch().number == GRIMHOLDI_ANSWER_DATA);
+        CHECK(deliver(GRIMHOLDI_RESULT_DATA1, NULL, 0)
+              == GRIMHOLDI_ANSWER_DONE);
+        CHECK(complete(5, 0, GRIMHOLDI_DIRECTION_IN).pid
+              == GRIMHOLDI_RESULT_DATA1);
+    }
+}
+
+/* What runs, waits and is ready for the device stays till it is emptied. */
+static void detach_leaves_the_translator(void)
+{
+    enabled_hub(4);
+    CHECK(start_in(7, 1) == GRIMHOLDI_ANSWER_DONE);
+    CHECK(launches(0, 7));
+    CHECK(deliver_text("abc") == GRIMHOLDI_ANSWER_DONE);
+    CHECK(start_in(5, 1) == GRIMHOLDI_ANSWER_DONE);
+    CHECK(start_in(6, 1) == GRIMHOLDI_ANSWER_DONE);
+    CHECK(launches(0, 5));
+    CHECK(event(GRIMHOLDI_EVENT_DETACH, PORT) == GRIMHOLDI_ANSWER_DONE);
+    CHECK(has_text(0, 7, "abc"));
+    CHECK(launch().number == GRIMHOLDI_ANSWER_NOT_NOW);
+    CHECK(deliver(GRIMHOLDI_RESULT_FAILURE, NULL, 0) == GRIMHOLDI_ANSWER_DONE);
+    CHECK(complete(5, 1, GRIMHOLDI_DIRECTION_IN).pid
+          == GRIMHOLDI_RESULT_STALL);
+    CHECK(launches(0, 6));
+    CHECK(clear_tt_buffer(6, 1, GRIMHOLDI_DIRECTION_IN)
+          == GRIMHOLDI_ANSWER_DONE);
+    CHECK(complete(6, 1, GRIMHOLDI_DIRECTION_IN).number
+          == GRIMHOLDI_ANSWER_STALL);
+}
+
 int main(void)
 {
     events_by_state();
@@ -406,6 +467,8 @@ int main(void)
     bus_reset_gives_the_new_hub();
     own_old_buffer_comes_first();
     repeats_and_reuse();
+    toggles();
+    detach_leaves_the_translator();
     free_hub();
     return check_summary("rules");
 }
