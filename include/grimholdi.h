@@ -135,7 +135,7 @@
  *   use, is the firmware's: it starts with DATA0 at each SetConfiguration.
  *
  *   Launch, deliver, line events and ticks are between the hub and the front
- *   end, and nothing goes upstream for them.
+ *   end, and nothing goes upstream for them.  NOT_NOW is answered there alone.
  *
  * Why a call is answered as it is
  *
@@ -550,7 +550,7 @@ grimholdi_answer grimholdi_new(uint8_t *area, size_t area_len,
  * The other requests that a host makes of every device are STALL here.  The
  * firmware sorts them out and answers them itself: the standard requests,
  * those with bits 5 and 6 of bmRequestType zero, but for SetConfiguration and
- * GetConfiguration.  Hosts use
+ * GetConfiguration.  docs/HOSTS.md tells what Linux asks.  Hosts use
  *
  *   SetAddress         00 05  The new address takes effect in the front end,
  *                             behind the status stage, and is 0 again after
