@@ -45,6 +45,9 @@ WHY_UNDER ?=
 REPLAY_HEADERS := $(wildcard tools/replay/*.h) $(WORDS_HEADERS)
 REPLAY_SOURCES := $(wildcard tools/replay/*.c) $(WORDS_SOURCES)
 REPLAY_UNDER ?=
+FIRMWARE_HEADERS := $(wildcard examples/*.h)
+FIRMWARE_SOURCES := $(patsubst %,examples/%.c,firmware calls log computers \
+	takes take_scenes port_scenes)
 NAK_AREA := $(TARGET)/nak.area
 SESSION := $(TARGET)/session.rec
 SESSION_ANSWERS := $(TARGET)/session.answers
@@ -121,9 +124,10 @@ test-model: model
 soak: model
 	$(MODEL) --calls $(SOAK_CALLS) --seed $(SOAK_SEED)
 
-$(TARGET)/firmware: examples/firmware.c $(INCLUDED) $(LIBRARY) $(LINKED)
+$(TARGET)/firmware: $(FIRMWARE_SOURCES) $(FIRMWARE_HEADERS) $(INCLUDED) \
+		$(LIBRARY) $(LINKED)
 	mkdir -p $(@D)
-	$(CC) $(TEST_CFLAGS) $< $(LIBRARY) $(LDLIBS) -o $@
+	$(CC) $(TEST_CFLAGS) $(FIRMWARE_SOURCES) $(LIBRARY) $(LDLIBS) -o $@
 
 demo: $(TARGET)/firmware
 	$(TARGET)/firmware
