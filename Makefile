@@ -1,6 +1,6 @@
 # The front door. `make test` is the gate, which leaves the library that it tested; `make check` is the quick loop, which proves what changed
 # and runs the programs; `make lib` proves what the library rests on, unless that is proved already, and writes it. The targets of
-# tests/tests.mk (test-c, test-isolation, test-model, test-why, test-replay, soak, demo, why, replay, speed) link against it.
+# tests/tests.mk (test-c, test-isolation, test-model, test-why, test-replay, soak, demo, why, replay, speed) link against it; demo-mistakes needs none.
 PREFIX ?= /usr/local
 LIBRARY ?= target/libgrimholdi.a
 

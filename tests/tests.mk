@@ -10,6 +10,9 @@
 #                        and recordings written, damaged and replayed
 #   make soak            the model over SOAK_CALLS calls, with a new seed
 #   make demo            the example firmware
+#   make demo-mistakes   the example firmware on the C in place with each of
+#                        document 01's five errors that look right: it must
+#                        fail each time
 #   make why             the tool why, on the example's own NAK
 #   make replay          the tool replay, on the example's own recording
 #   make speed           instructions per call, against inplace.c
@@ -48,6 +51,7 @@ REPLAY_UNDER ?=
 FIRMWARE_HEADERS := $(wildcard examples/*.h)
 FIRMWARE_SOURCES := $(patsubst %,examples/%.c,firmware calls log computers \
 	takes take_scenes port_scenes)
+MISTAKES := $(patsubst tests/mistakes/%.edit,%,$(wildcard tests/mistakes/*.edit))
 NAK_AREA := $(TARGET)/nak.area
 SESSION := $(TARGET)/session.rec
 SESSION_ANSWERS := $(TARGET)/session.answers
@@ -59,7 +63,7 @@ MODEL := $(TARGET)/model/release/model
 LINKED := $(TARGET)/linked-library
 
 .PHONY: always lib-stand-in model test-c test-isolation test-model test-why \
-	test-replay soak demo why replay speed
+	test-replay soak demo demo-mistakes why replay speed
 
 $(LINKED): always
 	mkdir -p $(@D)
@@ -131,6 +135,31 @@ $(TARGET)/firmware: $(FIRMWARE_SOURCES) $(FIRMWARE_HEADERS) $(INCLUDED) \
 
 demo: $(TARGET)/firmware
 	$(TARGET)/firmware
+
+# The C in place with one mistake, and the example on it.
+MISTAKEN := $(MISTAKES:%=$(TARGET)/mistakes/%)
+
+$(MISTAKEN:%=%.c): $(TARGET)/mistakes/%.c: tests/mistakes/%.edit \
+		tests/mistakes/edits.py tests/inplace/inplace.c
+	mkdir -p $(@D)
+	python3 -B tests/mistakes/edits.py $< tests/inplace > $@ \
+		|| { rm -f $@; exit 1; }
+
+$(MISTAKEN): %: %.c $(FIRMWARE_SOURCES) $(FIRMWARE_HEADERS) \
+		$(wildcard tests/inplace/*) $(INCLUDED)
+	$(CC) $(TEST_CFLAGS) -Itests/inplace -DINPLACE_AS_LIBRARY \
+		$(FIRMWARE_SOURCES) $< tests/inplace/recording.c -o $@
+
+$(TARGET)/mistakes/right: $(FIRMWARE_SOURCES) $(FIRMWARE_HEADERS) \
+		$(INCLUDED) $(STAND_IN)
+	mkdir -p $(@D)
+	$(CC) $(TEST_CFLAGS) $(FIRMWARE_SOURCES) $(STAND_IN) -o $@
+
+# That the example's checks are able to fail, on exactly the errors that
+# document 01 names, each in the scene that is there for it.  It needs no
+# library: what is tested is the example.
+demo-mistakes: $(TARGET)/mistakes/right $(MISTAKEN)
+	python3 -B tests/mistakes/noticed.py $(TARGET)/mistakes
 
 $(TARGET)/why: $(WHY_SOURCES) $(WHY_HEADERS) $(INCLUDED) $(LIBRARY) $(LINKED)
 	mkdir -p $(@D)
