@@ -22,6 +22,8 @@ check-texts:
 	python3 tests/port_table.py | cmp - crates/port_table/stdout
 	python3 tests/pins.py
 	python3 tests/pins.py --self-test
+	python3 tests/reading.py
+	python3 tests/reading.py --self-test
 	python3 tests/architecture.py --check
 	python3 tests/architecture.py --self-test
 
