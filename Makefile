@@ -18,6 +18,7 @@ check: check-texts
 # Without a proof: the expected table of the port is the one that a model of its own writes, from the rules as document 01, corrected by C-12,
 # words them; the claims that docs/PROMISES.md names are those that functions ensure; docs/ARCHITECTURE.svg shows the crates as they are.
 check-texts:
+	rt fmt --check
 	python3 tests/port_table.py --self-test
 	python3 tests/port_table.py | cmp - crates/port_table/stdout
 	python3 tests/pins.py
