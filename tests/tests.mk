@@ -19,13 +19,12 @@
 #
 # LIBRARY names the static library; LDLIBS what else it needs.  For a trial
 # without it:  make lib-stand-in && make test-c LIBRARY=$(STAND_IN)
+# LIBRARY and TARGET have their defaults in ../Makefile, which includes this.
 
 CC ?= cc
 CXX ?= c++
 CARGO ?= cargo
 VALGRIND ?= valgrind -q --error-exitcode=1 --leak-check=full
-TARGET ?= target
-LIBRARY ?= $(TARGET)/libgrimholdi.a
 STAND_IN := $(TARGET)/stand-in/libgrimholdi.a
 ISOLATION_CALLS ?= 1000000
 ISOLATION_SEED ?= 1

@@ -3,15 +3,15 @@
 # Each number is the difference of two runs of a loop, divided by the difference
 # of their loop counts.  It includes the loop's own few instructions.
 #
-# Usage: tests/speed/speed.sh LIBRARY [OUTPUT-FOLDER]
+# Usage: tests/speed/speed.sh LIBRARY OUTPUT-FOLDER
 #
 # LDLIBS names further libraries that LIBRARY needs.
 
 set -eu
 
-library=${1:?usage: speed.sh LIBRARY [OUTPUT-FOLDER]}
+library=${1:?usage: speed.sh LIBRARY OUTPUT-FOLDER}
+out=${2:?usage: speed.sh LIBRARY OUTPUT-FOLDER}
 root=$(cd "$(dirname "$0")/../.." && pwd)
-out=${2:-$root/target/speed}
 few=1000
 many=3000
 sizes='4:2 7:4'
