@@ -8,6 +8,8 @@
 #   make test-replay     the tool replay, beside the model; under REPLAY_UNDER
 #   make test-model      the model: self-check, then 2,000,000 calls compared,
 #                        and recordings written, damaged and replayed
+#   make test-install    make install, a program built with pkg-config's flags
+#                        alone, make uninstall; staged too
 #   make soak            the model over SOAK_CALLS calls, with a new seed
 #   make demo            the example firmware
 #   make demo-mistakes   the example firmware on the C in place with each of
@@ -62,7 +64,7 @@ MODEL := $(TARGET)/model/release/model
 LINKED := $(TARGET)/linked-library
 
 .PHONY: always lib-stand-in model test-c test-isolation test-model test-why \
-	test-replay soak demo demo-mistakes why replay speed
+	test-replay test-install soak demo demo-mistakes why replay speed
 
 $(LINKED): always
 	mkdir -p $(@D)
@@ -126,6 +128,9 @@ test-model: model
 
 soak: model
 	$(MODEL) --calls $(SOAK_CALLS) --seed $(SOAK_SEED)
+
+test-install: $(LIBRARY) $(TARGET)/why $(TARGET)/replay
+	python3 -B tests/build/install.py $(LIBRARY) $(TARGET) "$(CC)" "$(CXX)"
 
 $(TARGET)/firmware: $(FIRMWARE_SOURCES) $(FIRMWARE_HEADERS) $(INCLUDED) \
 		$(LIBRARY) $(LINKED)
