@@ -10,6 +10,8 @@
 #                        and recordings written, damaged and replayed
 #   make test-install    make install, a program built with pkg-config's flags
 #                        alone, make uninstall; staged too
+#   make test-compilers  the headers and all bytes of each returned struct, in
+#                        C99, C11, C++11 and C++17, gcc and clang, -O0 and -O3
 #   make soak            the model over SOAK_CALLS calls, with a new seed
 #   make demo            the example firmware
 #   make demo-mistakes   the example firmware on the C in place with each of
@@ -25,6 +27,10 @@
 
 CC ?= cc
 CXX ?= c++
+GCC ?= gcc
+GXX ?= g++
+CLANG ?= clang
+CLANGXX ?= clang++
 CARGO ?= cargo
 VALGRIND ?= valgrind -q --error-exitcode=1 --leak-check=full
 STAND_IN := $(TARGET)/stand-in/libgrimholdi.a
@@ -64,7 +70,8 @@ MODEL := $(TARGET)/model/release/model
 LINKED := $(TARGET)/linked-library
 
 .PHONY: always lib-stand-in model test-c test-isolation test-model test-why \
-	test-replay test-install soak demo demo-mistakes why replay speed
+	test-replay test-install test-compilers soak demo demo-mistakes why \
+	replay speed
 
 $(LINKED): always
 	mkdir -p $(@D)
@@ -131,6 +138,10 @@ soak: model
 
 test-install: $(LIBRARY) $(TARGET)/why $(TARGET)/replay
 	python3 -B tests/build/install.py $(LIBRARY) $(TARGET) "$(CC)" "$(CXX)"
+
+test-compilers: $(LIBRARY)
+	LDLIBS="$(LDLIBS)" python3 -B tests/build/compilers.py $(LIBRARY) \
+		$(TARGET)/compilers "$(GCC)" "$(GXX)" "$(CLANG)" "$(CLANGXX)"
 
 $(TARGET)/firmware: $(FIRMWARE_SOURCES) $(FIRMWARE_HEADERS) $(INCLUDED) \
 		$(LIBRARY) $(LINKED)
