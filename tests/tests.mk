@@ -12,6 +12,9 @@
 #                        alone, make uninstall; staged too
 #   make test-compilers  the headers and all bytes of each returned struct, in
 #                        C99, C11, C++11 and C++17, gcc and clang, -O0 and -O3
+#   make test-rust-version  the model needs no Rust later than 1.63: by clippy
+#                        and the text, or, with RUST_1_63=FOLDER, built by the
+#                        cargo and rustc there
 #   make soak            the model over SOAK_CALLS calls, with a new seed
 #   make demo            the example firmware
 #   make demo-mistakes   the example firmware on the C in place with each of
@@ -32,6 +35,7 @@ GXX ?= g++
 CLANG ?= clang
 CLANGXX ?= clang++
 CARGO ?= cargo
+RUST_1_63 ?=
 VALGRIND ?= valgrind -q --error-exitcode=1 --leak-check=full
 STAND_IN := $(TARGET)/stand-in/libgrimholdi.a
 ISOLATION_CALLS ?= 1000000
@@ -70,8 +74,8 @@ MODEL := $(TARGET)/model/release/model
 LINKED := $(TARGET)/linked-library
 
 .PHONY: always lib-stand-in model test-c test-isolation test-model test-why \
-	test-replay test-install test-compilers soak demo demo-mistakes why \
-	replay speed
+	test-replay test-install test-compilers test-rust-version soak demo \
+	demo-mistakes why replay speed
 
 $(LINKED): always
 	mkdir -p $(@D)
@@ -142,6 +146,10 @@ test-install: $(LIBRARY) $(TARGET)/why $(TARGET)/replay
 test-compilers: $(LIBRARY)
 	LDLIBS="$(LDLIBS)" python3 -B tests/build/compilers.py $(LIBRARY) \
 		$(TARGET)/compilers "$(GCC)" "$(GXX)" "$(CLANG)" "$(CLANGXX)"
+
+test-rust-version: $(LIBRARY)
+	CARGO="$(CARGO)" python3 -B tests/build/rust_version.py $(LIBRARY) \
+		$(TARGET)/rust-version $(RUST_1_63)
 
 $(TARGET)/firmware: $(FIRMWARE_SOURCES) $(FIRMWARE_HEADERS) $(INCLUDED) \
 		$(LIBRARY) $(LINKED)

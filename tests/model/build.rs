@@ -58,5 +58,5 @@ fn main() {
 
 fn run(command: &mut Command) {
     let status = command.status();
-    assert!(status.is_ok_and(|status| status.success()), "failed: {command:?}");
+    assert!(status.map_or(false, |status| status.success()), "failed: {command:?}");
 }

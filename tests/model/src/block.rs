@@ -78,7 +78,7 @@ pub fn faults(block: &[u8], place: u32) -> Vec<Refusal> {
     let unused = &whole[RECORDS + used.len()..CHECK];
     let wrong = |refusal: &Refusal| match refusal {
         Refusal::Length => block.len() != LENGTH,
-        Refusal::Check => !(sum(&whole) + u32::from(word(&whole, CHECK))).is_multiple_of(65_536),
+        Refusal::Check => (sum(&whole) + u32::from(word(&whole, CHECK))) % 65_536 != 0,
         Refusal::Number => place == 0 || u32::from(number(&whole)) != place,
         Refusal::Count => count(&whole) > USED_MAX || unused.iter().any(|&byte| byte != 0),
         Refusal::Record => record::read_all(used).is_none(),

@@ -183,15 +183,15 @@ fn check_free(lent: &mut LentReplay, place: u32) -> RawReplayed {
 }
 
 fn check_low(lent: &mut LentReplay, place: u32) -> RawReplayed {
-    checked(lent, place, |block| sum(block, u16::from_le_bytes).is_multiple_of(256))
+    checked(lent, place, |block| sum(block, u16::from_le_bytes) % 256 == 0)
 }
 
 fn check_modulo(lent: &mut LentReplay, place: u32) -> RawReplayed {
-    checked(lent, place, |block| sum(block, u16::from_le_bytes).is_multiple_of(65_535))
+    checked(lent, place, |block| sum(block, u16::from_le_bytes) % 65_535 == 0)
 }
 
 fn check_turned(lent: &mut LentReplay, place: u32) -> RawReplayed {
-    checked(lent, place, |block| sum(block, u16::from_be_bytes).is_multiple_of(65_536))
+    checked(lent, place, |block| sum(block, u16::from_be_bytes) % 65_536 == 0)
 }
 
 fn number_low(lent: &mut LentReplay, place: u32) -> RawReplayed {
@@ -337,8 +337,9 @@ fn empty_refused(lent: &mut LentReplay, place: u32) -> RawReplayed {
 
 /// Replays the calls of a good block with a change.
 fn with_calls(lent: &mut LentReplay, place: u32, change: fn(&mut Call)) -> RawReplayed {
-    let Ok(mut calls) = block::read(lent.block.bytes(), place) else {
-        return Linked.replay_block(lent, place);
+    let mut calls = match block::read(lent.block.bytes(), place) {
+        Ok(calls) => calls,
+        Err(_) => return Linked.replay_block(lent, place),
     };
     calls.iter_mut().for_each(change);
     let records: Vec<u8> = calls.iter().flat_map(record::write).collect();
@@ -349,7 +350,10 @@ fn with_calls(lent: &mut LentReplay, place: u32, change: fn(&mut Call)) -> RawRe
 /// Replays the calls with each number of four bytes cut.
 fn numbers_cut(lent: &mut LentReplay, place: u32, bytes: usize) -> RawReplayed {
     let block = lent.block.bytes();
-    let Ok(calls) = block::read(block, place) else { return Linked.replay_block(lent, place) };
+    let calls = match block::read(block, place) {
+        Ok(calls) => calls,
+        Err(_) => return Linked.replay_block(lent, place),
+    };
     let mut records = Vec::new();
     for call in &calls {
         let mut record = record::write(call);
@@ -378,7 +382,7 @@ fn payload_count_8(lent: &mut LentReplay, place: u32) -> RawReplayed {
             | Call::Deliver { payload: bytes, .. } => bytes.len() > 255,
             _ => false,
         };
-        record::read_all(block::used(block)).is_some_and(|calls| calls.iter().any(long))
+        record::read_all(block::used(block)).map_or(false, |calls| calls.iter().any(long))
     })
 }
 

@@ -148,9 +148,12 @@ impl Run<'_> {
         call: &Call,
     ) -> Result<Expected, String> {
         let reason = self.library.expected_reason(hub.as_deref(), call);
-        let Some(hub) = hub else {
-            let answer = Answer::plain(answer::OUTSIDE);
-            return Expected { reason, answer, area: area.to_vec() }.checked(call, true);
+        let hub = match hub {
+            Some(hub) => hub,
+            None => {
+                let answer = Answer::plain(answer::OUTSIDE);
+                return Expected { reason, answer, area: area.to_vec() }.checked(call, true);
+            }
         };
         let before = hub.clone();
         let answer = hub.step(call);

@@ -451,7 +451,10 @@ impl Coverage {
     fn answer(&mut self, call: &Call, answer: &Answer) {
         let (name, number) = (call_name(call), answer.number);
         self.answers.visit(name, ANSWERS[usize::from(number)], number);
-        let Some((carrier, lane)) = lanes::carrier(call) else { return };
+        let (carrier, lane) = match lanes::carrier(call) {
+            Some(found) => found,
+            None => return,
+        };
         let place = lanes::lane_number(lane);
         self.carriers.count(3 * carrier + place, number.into(), number);
         if let Some(outside) = lanes::outside(lane) {
@@ -702,8 +705,12 @@ fn searches(buffers: &[Buffer], reason: &Reason) -> impl Iterator<Item = usize> 
 
 /// Status and PID of the buffer that a complete-split is for, and its result.
 fn completed(hub: &Hub, call: &Call) -> Option<(&'static str, &'static str)> {
-    let Call::CompleteSplit { lane, address, endpoint, direction, .. } = call else { return None };
-    let key = Key::from_numbers(*lane, *address, *endpoint, *direction)?;
+    let key = match *call {
+        Call::CompleteSplit { lane, address, endpoint, direction, .. } => {
+            Key::from_numbers(lane, address, endpoint, direction)?
+        }
+        _ => return None,
+    };
     let buffer = &hub.translator.buffers[hub.translator.find(key)?];
     let row = match buffer.start()?.token {
         Token::In => 0,

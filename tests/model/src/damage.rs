@@ -53,7 +53,10 @@ pub const FIELDS: [&str; 24] = [
 pub fn lane_flip(hub: &Hub, number: usize) -> Damage {
     let translator = &hub.translator;
     let buffer = &translator.buffers[number];
-    let Some(twin) = buffer.key().map(Key::twin) else { return Damage::None };
+    let twin = match buffer.key().map(Key::twin) {
+        Some(twin) => twin,
+        None => return Damage::None,
+    };
     if translator.find(twin).is_some() {
         Damage::Twin
     } else if !buffer.is_free() && translator.held(twin.lane) == translator.limit() {

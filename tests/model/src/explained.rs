@@ -244,11 +244,14 @@ impl Explained {
     /// A call on the hub, or on an area that holds none, with its answer.
     pub fn count(&mut self, hub: Option<&Hub>, call: &Call, reason: &Reason, answer: u8) {
         self.calls.visit(call_name(call), name(hub, reason), answer);
-        let Some(hub) = hub else {
-            if call.space().is_some_and(|space| space < 64) {
-                self.numbers.visit(numbered(call), "area+7", answer);
+        let hub = match hub {
+            Some(hub) => hub,
+            None => {
+                if call.space().map_or(false, |space| space < 64) {
+                    self.numbers.visit(numbered(call), "area+7", answer);
+                }
+                return;
             }
-            return;
         };
         match (reason, call) {
             (Reason::Number(_), _) => self.number(hub, call, answer),
@@ -358,7 +361,10 @@ fn buffer_row(reason: &Reason, buffer: &Buffer, lane: Lane) -> usize {
 
 /// The column of `NO_BUFFER`.
 fn no_buffer(translator: &Translator, call: &Call, reason: &Reason) -> &'static str {
-    let Call::StartSplit { numbers, .. } = call else { unreachable!("{call:?}") };
+    let numbers = match call {
+        Call::StartSplit { numbers, .. } => numbers,
+        _ => unreachable!("{call:?}"),
+    };
     let key = numbers.understand().map(|start| start.key());
     let free = translator.buffers.iter().find(|buffer| buffer.is_free());
     match free {

@@ -77,11 +77,9 @@ fn write_buffer(buffer: &Buffer, area: &mut Vec<u8>) {
 
 /// The permitted hub whose written form the area is, if there is one.
 pub fn read(area: &[u8]) -> Option<Hub> {
-    let (header, rest) = area.split_at_checked(HEADER)?;
-    let &[ports, buffers, power_good, current, removable, configured, low_side, running] = header
-    else {
-        return None;
-    };
+    let header = <[u8; HEADER]>::try_from(area.get(..HEADER)?).ok()?;
+    let [ports, buffers, power_good, current, removable, configured, low_side, running] = header;
+    let rest = &area[HEADER..];
     let new = Hub::new(
         ports.into(),
         buffers.into(),
@@ -111,7 +109,7 @@ pub fn read(area: &[u8]) -> Option<Hub> {
 }
 
 fn read_port(bytes: &[u8]) -> Option<Port> {
-    let &[state, speed, ticks, marks] = bytes else { return None };
+    let [state, speed, ticks, marks] = <[u8; 4]>::try_from(bytes).ok()?;
     let speed = *[Speed::Low, Speed::Full, Speed::High].get(usize::from(speed))?;
     let state = match state {
         0 => State::NotConfigured,
@@ -133,8 +131,9 @@ fn read_port(bytes: &[u8]) -> Option<Port> {
 }
 
 fn read_buffer(bytes: &[u8]) -> Option<Buffer> {
-    let (&[status, pid, transfer, flags, address, endpoint, last, length], bytes) =
-        bytes.split_first_chunk::<BUFFER_HEAD>()?;
+    let head = <[u8; BUFFER_HEAD]>::try_from(bytes.get(..BUFFER_HEAD)?).ok()?;
+    let [status, pid, transfer, flags, address, endpoint, last, length] = head;
+    let bytes = &bytes[BUFFER_HEAD..];
     if status == 0 {
         return Some(Buffer::Empty);
     }

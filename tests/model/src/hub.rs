@@ -126,7 +126,7 @@ impl Hub {
         let places: Vec<_> = buffers.iter().filter_map(|buffer| buffer.place()).collect();
         let running_is_pending = match self.translator.low_side {
             LowSide::Running(number) => {
-                buffers.get(number).is_some_and(|buffer| buffer.place().is_some())
+                buffers.get(number).map_or(false, |buffer| buffer.place().is_some())
             }
             LowSide::Idle | LowSide::Abandoned => true,
         };
@@ -141,8 +141,11 @@ impl Hub {
     }
 
     pub fn step(&mut self, call: &Call) -> Answer {
-        let Some(ask) = self.understand(call) else { return Answer::plain(answer::OUTSIDE) };
-        if call.space().is_some_and(|space| space < 64) {
+        let ask = match self.understand(call) {
+            Some(ask) => ask,
+            None => return Answer::plain(answer::OUTSIDE),
+        };
+        if call.space().map_or(false, |space| space < 64) {
             return Answer::plain(answer::NO_SPACE);
         }
         if !self.configured && ask.silent_unconfigured() {
@@ -240,7 +243,10 @@ impl Hub {
     }
 
     fn control(&mut self, lane: Lane, setup: &[u8; 8]) -> Answer {
-        let Some(request) = self.served(lane, setup) else { return Answer::plain(answer::STALL) };
+        let request = match self.served(lane, setup) {
+            Some(request) => request,
+            None => return Answer::plain(answer::STALL),
+        };
         let port = request.port().map(|port| &mut self.ports[usize::from(port) - 1]);
         match (request, port) {
             (Request::GetConfiguration, _) => return Answer::data(&[self.configured.into()]),

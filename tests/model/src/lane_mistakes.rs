@@ -56,7 +56,10 @@ fn start_turned(
 ) -> RawAnswer {
     let before = lent.clone();
     let answer = Linked.call(call, lent);
-    let Some((hub, start)) = answered_start(call, &before, answer) else { return answer };
+    let (hub, start) = match answered_start(call, &before, answer) {
+        Some(found) => found,
+        None => return answer,
+    };
     if answer.number != number || !met(&hub.translator, &start) {
         return answer;
     }
@@ -66,7 +69,7 @@ fn start_turned(
 }
 
 fn is_repeat(translator: &Translator, start: &Start) -> bool {
-    translator.find(start.key()).is_some_and(|number| !translator.buffers[number].is_free())
+    translator.find(start.key()).map_or(false, |number| !translator.buffers[number].is_free())
 }
 
 fn at_limit(translator: &Translator, start: &Start) -> bool {
@@ -128,9 +131,12 @@ pub fn other_old_kept(call: &Call, lent: &mut Lent) -> RawAnswer {
 pub fn repeat_without_lane(call: &Call, lent: &mut Lent) -> RawAnswer {
     let before = lent.clone();
     let answer = Linked.call(call, lent);
-    let Some((hub, start)) = answered_start(call, &before, answer) else { return answer };
+    let (hub, start) = match answered_start(call, &before, answer) {
+        Some(found) => found,
+        None => return answer,
+    };
     let twin = hub.translator.find(start.key().twin());
-    if twin.is_some_and(|number| !hub.translator.buffers[number].is_free()) {
+    if twin.map_or(false, |number| !hub.translator.buffers[number].is_free()) {
         *lent = before;
         return RawAnswer { number: answer::DONE, ..answer };
     }
@@ -149,7 +155,10 @@ pub fn moved(hub: &Hub, before: &Lent, lent: &mut Lent, from: usize, to: usize) 
 pub fn reuse_without_lane(call: &Call, lent: &mut Lent) -> RawAnswer {
     let before = lent.clone();
     let answer = Linked.call(call, lent);
-    let Some((hub, start)) = answered_start(call, &before, answer) else { return answer };
+    let (hub, start) = match answered_start(call, &before, answer) {
+        Some(found) => found,
+        None => return answer,
+    };
     let stored = read(lent).and_then(|hub| hub.translator.find(start.key()));
     let twin = hub.translator.find(start.key().twin());
     let own = hub.translator.find(start.key());
@@ -167,7 +176,10 @@ pub fn complete_without_lane(call: &Call, lent: &mut Lent) -> RawAnswer {
 
 /// The hub before a request that was done, and the request.
 fn done(call: &Call, before: &Lent, answer: RawAnswer) -> Option<(Hub, Request)> {
-    let Call::Control { setup, .. } = call else { return None };
+    let setup = match call {
+        Call::Control { setup, .. } => setup,
+        _ => return None,
+    };
     if answer.number != answer::DONE {
         return None;
     }
@@ -194,14 +206,13 @@ fn after_request(
 fn from_other_lane(call: &Call, lent: &mut Lent, met: fn(&Request, &Hub) -> bool) -> RawAnswer {
     let before = lent.clone();
     let answer = Linked.call(call, lent);
-    let (Some((hub, request)), Call::Control { lane, setup, space }) =
+    if let (Some((hub, request)), Call::Control { lane, setup, space }) =
         (done(call, &before, answer), call)
-    else {
-        return answer;
-    };
-    if met(&request, &hub) {
-        let again = Call::Control { lane: 1 - lane, setup: setup.clone(), space: *space };
-        Linked.call(&again, lent);
+    {
+        if met(&request, &hub) {
+            let again = Call::Control { lane: 1 - lane, setup: setup.clone(), space: *space };
+            Linked.call(&again, lent);
+        }
     }
     answer
 }
@@ -296,8 +307,9 @@ pub fn bus_reset_keeps_lane(call: &Call, lent: &mut Lent) -> RawAnswer {
 pub fn reset_closes_gaps(call: &Call, lent: &mut Lent) -> RawAnswer {
     after_request(call, lent, |request, hub, lent| {
         let places = |number: &usize| form::length(hub.ports.len(), *number) + 6;
-        let Some(after) = read(lent).filter(|_| matches!(request, Request::ResetTt(_))) else {
-            return;
+        let after = match (read(lent), request) {
+            (Some(after), Request::ResetTt(_)) => after,
+            _ => return,
         };
         let buffers = &after.translator.buffers;
         let mut pending: Vec<usize> =
@@ -389,14 +401,17 @@ fn buffers(lent: &Lent) -> impl Iterator<Item = usize> {
 
 /// The last buffer of a crowded area is seen in the other lane.
 pub fn crowded_taken(call: &Call, lent: &mut Lent) -> RawAnswer {
-    let Some(last) = buffers(lent).last() else { return Linked.call(call, lent) };
+    let last = match buffers(lent).last() {
+        Some(last) => last,
+        None => return Linked.call(call, lent),
+    };
     let mut seen = lent.clone();
     seen.area.bytes_mut()[last + 3] ^= form::LANE_BIT;
     let is_crowded = |hub: Hub| {
         let last = hub.translator.limit();
         matches!(damage::lane_flip(&hub, last), Damage::Crowded(..))
     };
-    let crowded = read(&seen).is_some_and(is_crowded);
+    let crowded = read(&seen).map_or(false, is_crowded);
     Linked.call(call, if crowded { &mut seen } else { lent })
 }
 

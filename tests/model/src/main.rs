@@ -77,7 +77,10 @@ fn main() -> ExitCode {
     if let Some(("--replay", words)) = words.split_first().map(|(first, rest)| (&**first, rest)) {
         return replay_file(words).unwrap_or_else(usage);
     }
-    let Some(options) = options() else { return usage() };
+    let options = match options() {
+        Some(options) => options,
+        None => return usage(),
+    };
     let passed = if options.self_check { self_check(&options) } else { comparison(&options) };
     if passed {
         ExitCode::SUCCESS
@@ -157,15 +160,18 @@ fn self_check(options: &Options) -> bool {
 /// Replays a recording in the model alone.  None if the words are not as the
 /// usage says.
 fn replay_file(words: &[String]) -> Option<ExitCode> {
-    let [file, numbers @ ..] = words else { return None };
+    let (file, numbers) = words.split_first()?;
     // A number too large for 32 bits is outside the rules as well.
     let number = |word: &String| word.parse::<u64>().map(|number| number.min(u32::MAX.into()));
     let numbers: Vec<_> = numbers.iter().map(number).collect::<Result<_, _>>().ok()?;
     let [ports, buffers, power_good, current, removable] =
         <[u64; 5]>::try_from(numbers).ok()?.map(|number| number as u32);
-    let Some(hub) = Hub::new(ports, buffers, power_good, current, removable) else {
-        eprintln!("{}", answer::OUTSIDE);
-        return Some(ExitCode::SUCCESS);
+    let hub = match Hub::new(ports, buffers, power_good, current, removable) {
+        Some(hub) => hub,
+        None => {
+            eprintln!("{}", answer::OUTSIDE);
+            return Some(ExitCode::SUCCESS);
+        }
     };
     let replayed = fs::read(file)
         .and_then(|recording| replay_recording(hub, &recording))

@@ -202,7 +202,7 @@ fn error_unreported(call: &Call, lent: &mut Lent) -> RawAnswer {
 
 fn space_first(call: &Call, lent: &mut Lent) -> RawAnswer {
     let mut answer = Linked.call(call, lent);
-    if call.space().is_some_and(|space| space < 64) {
+    if call.space().map_or(false, |space| space < 64) {
         answer.number = answer::NO_SPACE;
     }
     answer

@@ -83,7 +83,10 @@ const fn row(
 impl Reason {
     /// An area that holds no permitted hub is None.
     pub fn of(hub: Option<&Hub>, call: &Call) -> Reason {
-        let Some(hub) = hub else { return Reason::Number(answer::OUTSIDE) };
+        let hub = match hub {
+            Some(hub) => hub,
+            None => return Reason::Number(answer::OUTSIDE),
+        };
         if let Some(number) = numbers(hub, call).next() {
             return Reason::Number(number);
         }
@@ -163,7 +166,10 @@ impl Reason {
 
     /// Whether a start-split for this reason leaves such a hub.
     pub fn leaves(&self, call: &Call, before: &Hub, after: &Hub) -> bool {
-        let Call::StartSplit { numbers, .. } = call else { return true };
+        let numbers = match call {
+            Call::StartSplit { numbers, .. } => numbers,
+            _ => return true,
+        };
         let kept = form::write(before) == form::write(after);
         let places = |start: Start| [before, after].map(|hub| hub.translator.find(start.key()));
         let places = numbers.understand().map(places);
@@ -202,7 +208,7 @@ impl Reason {
 pub fn numbers<'a>(hub: &'a Hub, call: &'a Call) -> impl Iterator<Item = u8> + 'a {
     NUMBERS.into_iter().filter(|&number| match number {
         answer::OUTSIDE => is_outside(hub, call),
-        answer::NO_SPACE => call.space().is_some_and(|space| space < 64),
+        answer::NO_SPACE => call.space().map_or(false, |space| space < 64),
         answer::SILENT => !hub.configured && is_silenced(call),
         _ => is_not_now(hub, call),
     })
@@ -259,7 +265,7 @@ fn is_not_now(hub: &Hub, call: &Call) -> bool {
         },
         Call::LineEvent { event, port } => {
             let elsewhere = |port: &Port| !is_named_for(*event, port.state);
-            !hub.configured || port_of(hub, *port).is_some_and(elsewhere)
+            !hub.configured || port_of(hub, *port).map_or(false, elsewhere)
         }
         _ => false,
     }
@@ -285,7 +291,7 @@ fn port_of(hub: &Hub, number: u32) -> Option<&Port> {
 pub fn wrong_things(hub: &Hub, setup: &[u8]) -> Vec<Wrong> {
     let row = ROWS.iter().find(|row| row.type_and_code == setup[..2]);
     let word = |at: usize| u16::from(setup[at]) + 256 * u16::from(setup[at + 1]);
-    let serves = hub.configured || row.is_some_and(|row| row.served_unconfigured);
+    let serves = hub.configured || row.map_or(false, |row| row.served_unconfigured);
     let index = |row: &Row| match row.index {
         Index::Is(index) => word(4) == index,
         Index::Port => port_of(hub, word(4).into()).is_some(),
@@ -293,9 +299,9 @@ pub fn wrong_things(hub: &Hub, setup: &[u8]) -> Vec<Wrong> {
     let things = [
         (Wrong::TypeOrCode, row.is_none()),
         (Wrong::Unconfigured, !serves),
-        (Wrong::Value, row.is_some_and(|row| !(row.value)(word(2)))),
-        (Wrong::Index, row.is_some_and(|row| !index(row))),
-        (Wrong::Length, row.and_then(|row| row.length).is_some_and(|length| word(6) != length)),
+        (Wrong::Value, row.map_or(false, |row| !(row.value)(word(2)))),
+        (Wrong::Index, row.map_or(false, |row| !index(row))),
+        (Wrong::Length, row.and_then(|row| row.length).map_or(false, |length| word(6) != length)),
     ];
     things.into_iter().filter(|(_, is_wrong)| *is_wrong).map(|(thing, _)| thing).collect()
 }

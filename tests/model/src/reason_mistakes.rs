@@ -164,7 +164,7 @@ fn last_wrong(call: &Call, lent: &mut Lent) -> RawReason {
 
 fn descriptor_unserved(call: &Call, lent: &mut Lent) -> RawReason {
     let reason = Linked.explain(call, lent);
-    let unconfigured = read(lent).is_some_and(|hub| !hub.configured);
+    let unconfigured = read(lent).map_or(false, |hub| !hub.configured);
     match call {
         Call::Control { setup, .. } if setup.starts_with(&[0xA0, 0x06]) && unconfigured => {
             match reason.kind {
@@ -221,7 +221,10 @@ fn of_start(
     mistake: fn(&Translator, Key) -> Option<RawReason>,
 ) -> RawReason {
     let reason = Linked.explain(call, lent);
-    let Call::StartSplit { numbers, .. } = call else { return reason };
+    let numbers = match call {
+        Call::StartSplit { numbers, .. } => numbers,
+        _ => return reason,
+    };
     match (read(lent), numbers.understand()) {
         (Some(hub), Some(start)) if reason.kind == kind => {
             mistake(&hub.translator, start.key()).unwrap_or(reason)

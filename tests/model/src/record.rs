@@ -99,8 +99,8 @@ struct Rest<'a>(&'a [u8]);
 
 impl<'a> Rest<'a> {
     fn take(&mut self, length: usize) -> Option<&'a [u8]> {
-        let (taken, rest) = self.0.split_at_checked(length)?;
-        self.0 = rest;
+        let taken = self.0.get(..length)?;
+        self.0 = &self.0[length..];
         Some(taken)
     }
 

@@ -40,7 +40,8 @@ pub fn run(
     let fill = chooser.random.bytes(ANSWERS + 1000);
     let coverage = &mut coverage.recordings;
     let mut run = Run { library, chooser, coverage, fill, left: None };
-    let recordings = (calls / CALLS_PER_BLOCK).div_ceil(RECORDING.into());
+    let (blocks, each) = (calls / CALLS_PER_BLOCK, u64::from(RECORDING));
+    let recordings = (blocks + each - 1) / each;
     for recording in 1..=recordings.max(FIRST) {
         run.recording().map_err(|text| format!("seed {seed}, recording {recording}, {text}"))?;
         if recording == FIRST {

@@ -241,7 +241,10 @@ impl Recordings {
     /// A replay with all that is wrong with the block.
     pub fn replay(&mut self, lent: &str, faults: &[Refusal]) {
         self.lent.visit(lent, BLOCKS[usize::from(!faults.is_empty())], 0);
-        let Some((told, others)) = faults.split_first().filter(|_| lent == ROOM) else { return };
+        let (told, others) = match faults.split_first() {
+            Some(found) if lent == ROOM => found,
+            _ => return,
+        };
         let row = WORDS[*told as usize - 1];
         if others.is_empty() {
             self.refused.visit(row, "alone", 0);
@@ -282,7 +285,7 @@ impl Recordings {
                 1..=63 => 1,
                 64 => 2,
                 65..=255 => 3,
-                256..record::SPACE_MAX => 4,
+                _ if space < record::SPACE_MAX => 4,
                 record::SPACE_MAX => 5,
                 _ => 6,
             };
@@ -308,8 +311,8 @@ impl Recordings {
 /// The name of the byte in a good block.
 fn field(block: &[u8], at: usize) -> &'static str {
     match at {
-        0..2 => return "number",
-        2..RECORDS => return "count",
+        0..=1 => return "number",
+        _ if at < RECORDS => return "count",
         CHECK.. => return "check",
         _ => {}
     }

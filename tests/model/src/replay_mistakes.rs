@@ -140,7 +140,10 @@ fn noted(
 ) -> RawReplayed {
     let hub = form::read(lent.area.bytes());
     let given = Linked.replay_block(lent, place);
-    let Some(hub) = hub.filter(|_| given.number == answer::DONE) else { return given };
+    let hub = match hub {
+        Some(hub) if given.number == answer::DONE => hub,
+        _ => return given,
+    };
     let mut replay = replay::Replay::new(hub);
     let before = replay.history.tally();
     let _ = replay.block(lent.block.bytes(), place, note);
@@ -213,7 +216,10 @@ fn refused_unanswered(lent: &mut LentReplay, place: u32) -> RawReplayed {
 /// The calls behind the first refused one are not made.
 fn refused_ends(lent: &mut LentReplay, place: u32) -> RawReplayed {
     let (_, made) = replayed(&mut lent.clone(), place);
-    let Some(made) = made else { return Linked.replay_block(lent, place) };
+    let made = match made {
+        Some(made) => made,
+        None => return Linked.replay_block(lent, place),
+    };
     let refused = |made: &Made| answer::is_refusal(made.answer.number);
     let end = made.iter().position(refused).map_or(made.len(), |place| place + 1);
     let records: Vec<u8> = made[..end].iter().flat_map(|made| record::write(&made.call)).collect();
@@ -297,9 +303,10 @@ fn space_taken(lent: &mut LentReplay, place: u32) -> RawReplayed {
 }
 
 fn space_first(lent: &mut LentReplay, place: u32) -> RawReplayed {
-    match lent.answers.bytes().len() {
-        ..ANSWERS => number_alone(answer::NO_SPACE),
-        _ => Linked.replay_block(lent, place),
+    if lent.answers.bytes().len() < ANSWERS {
+        number_alone(answer::NO_SPACE)
+    } else {
+        Linked.replay_block(lent, place)
     }
 }
 

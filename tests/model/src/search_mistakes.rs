@@ -18,7 +18,10 @@ type Search = fn(&Translator, Key) -> Option<usize>;
 fn searched(call: &Call, lent: &mut Lent, search: Search) -> RawAnswer {
     let before = lent.clone();
     let answer = Linked.call(call, lent);
-    let Some((hub, start)) = answered_start(call, &before, answer) else { return answer };
+    let (hub, start) = match answered_start(call, &before, answer) {
+        Some(found) => found,
+        None => return answer,
+    };
     let (translator, key) = (&hub.translator, start.key());
     let (found, holder) = (search(translator, key), translator.find(key));
     if found.is_some() && found == holder {
@@ -32,9 +35,12 @@ fn searched(call: &Call, lent: &mut Lent, search: Search) -> RawAnswer {
     }
     let answer = Linked.call(call, lent);
     let stored = read(lent).and_then(|hub| hub.translator.find(key));
-    let (Some(stored), Some(found)) = (stored, found) else {
-        *lent = before;
-        return RawAnswer { number: answer::NAK, ..answer };
+    let (stored, found) = match (stored, found) {
+        (Some(stored), Some(found)) => (stored, found),
+        _ => {
+            *lent = before;
+            return RawAnswer { number: answer::NAK, ..answer };
+        }
     };
     if let Some(address) = address {
         lent.area.bytes_mut()[address] = key.address;

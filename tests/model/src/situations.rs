@@ -24,22 +24,22 @@ pub const SITUATIONS: &[(&str, Met)] = &[
     }),
     ("PORT_RESET again, timer running", |step| {
         set_on(step, SetFeature::Reset)
-            .is_some_and(|port| matches!(port.state, State::Resetting(_, 1..)))
+            .map_or(false, |port| matches!(port.state, State::Resetting(_, 1..)))
     }),
     ("PORT_RESET again at high speed", |step| {
         set_on(step, SetFeature::Reset)
-            .is_some_and(|port| matches!(port.state, State::Resetting(..)) && is_high(port))
+            .map_or(false, |port| matches!(port.state, State::Resetting(..)) && is_high(port))
     }),
     ("PORT_RESET makes high speed full speed", |step| {
         set_on(step, SetFeature::Reset)
-            .is_some_and(|port| !matches!(port.state, State::Resetting(..)) && is_high(port))
+            .map_or(false, |port| !matches!(port.state, State::Resetting(..)) && is_high(port))
     }),
     ("PORT_POWER under over-current", |step| {
-        set_on(step, SetFeature::Power).is_some_and(|port| port.over_current)
+        set_on(step, SetFeature::Power).map_or(false, |port| port.over_current)
     }),
     ("power goes off, change bits stay", |step| {
         clear_on(step, ClearFeature::Power)
-            .is_some_and(|port| has_change(port) && port.state != State::PoweredOff)
+            .map_or(false, |port| has_change(port) && port.state != State::PoweredOff)
     }),
     ("detach in Enabled, C_PORT_ENABLE 0", |step| {
         event_in(step, Event::Detach, false, |state| matches!(state, State::Enabled(_)))
@@ -61,16 +61,17 @@ pub const SITUATIONS: &[(&str, Met)] = &[
     ("detach, C_PORT_ENABLE 1", |step| event_in(step, Event::Detach, true, |_| true)),
     ("over-current, C_PORT_ENABLE 1", |step| event_in(step, Event::OverCurrentOn, true, |_| true)),
     ("over-current ends a reset", |step| {
-        event(step).is_some_and(|(event, port)| {
+        event(step).map_or(false, |(event, port)| {
             event == Event::OverCurrentOn && matches!(port.state, State::Resetting(..))
         })
     }),
     ("over-current on again", |step| {
-        event(step).is_some_and(|(event, port)| event == Event::OverCurrentOn && port.over_current)
+        event(step)
+            .map_or(false, |(event, port)| event == Event::OverCurrentOn && port.over_current)
     }),
     ("over-current off again", |step| {
         event(step)
-            .is_some_and(|(event, port)| event == Event::OverCurrentOff && !port.over_current)
+            .map_or(false, |(event, port)| event == Event::OverCurrentOff && !port.over_current)
     }),
     ("SetConfiguration 0 drops a level", |step| {
         configures(step, false) && step.before.ports.iter().any(|port| port.over_current)
@@ -104,14 +105,14 @@ pub const SITUATIONS: &[(&str, Met)] = &[
         translator(step).buffers.iter().all(|buffer| buffer.place().is_some())
     }),
     ("start-split repeated with another PID", |step| {
-        start(step).is_some_and(|(token, key)| {
-            held(step, key).is_some_and(|buffer| {
-                !buffer.is_free() && buffer.start().is_some_and(|start| start.token != token)
+        start(step).map_or(false, |(token, key)| {
+            held(step, key).map_or(false, |buffer| {
+                !buffer.is_free() && buffer.start().map_or(false, |start| start.token != token)
             })
         })
     }),
     ("own old buffer reused, a lower one free", |step| {
-        start(step).and_then(|(_, key)| translator(step).find(key)).is_some_and(|number| {
+        start(step).and_then(|(_, key)| translator(step).find(key)).map_or(false, |number| {
             let buffers = &translator(step).buffers;
             step.answer.number == answer::DONE
                 && buffers[number].is_free()
@@ -119,14 +120,14 @@ pub const SITUATIONS: &[(&str, Met)] = &[
         })
     }),
     ("old buffer of another key reused", |step| {
-        start(step).is_some_and(|(_, key)| {
+        start(step).map_or(false, |(_, key)| {
             step.answer.number == answer::DONE
                 && translator(step).find(key).is_none()
                 && translator(step)
                     .buffers
                     .iter()
                     .find(|buffer| buffer.is_free())
-                    .is_some_and(|buffer| matches!(buffer, Buffer::Old(..)))
+                    .map_or(false, |buffer| matches!(buffer, Buffer::Old(..)))
         })
     }),
     ("shorter payload over a longer result", |step| {
@@ -162,18 +163,19 @@ pub const SITUATIONS: &[(&str, Met)] = &[
             && step.answer.bytes.is_empty()
     }),
     ("failure shown as STALL", |step| {
-        completed(step).is_some_and(|(_, outcome)| *outcome == Outcome::Failure)
+        completed(step).map_or(false, |(_, outcome)| *outcome == Outcome::Failure)
     }),
     ("STALL of the device", |step| {
-        completed(step).is_some_and(|(_, outcome)| *outcome == Outcome::Stall)
+        completed(step).map_or(false, |(_, outcome)| *outcome == Outcome::Stall)
     }),
-    ("complete-split, other direction held", |step| {
-        let Call::CompleteSplit { lane, address, endpoint, direction, .. } = step.call else {
-            return false;
-        };
-        step.answer.number == answer::STALL
-            && Key::from_numbers(*lane, *address, *endpoint, 1 - direction)
-                .is_some_and(|key| held(step, key).is_some())
+    ("complete-split, other direction held", |step| match *step.call {
+        Call::CompleteSplit { lane, address, endpoint, direction, .. }
+            if step.answer.number == answer::STALL =>
+        {
+            Key::from_numbers(lane, address, endpoint, 1 - direction)
+                .map_or(false, |key| held(step, key).is_some())
+        }
+        _ => false,
     }),
     ("both directions of an endpoint held", |step| {
         translator(step).buffers.iter().filter_map(Buffer::key).any(|key| {
@@ -182,8 +184,8 @@ pub const SITUATIONS: &[(&str, Met)] = &[
         })
     }),
     ("both lanes have data under one key", |step| {
-        completed(step).is_some_and(|(key, outcome)| {
-            held(step, key.twin()).and_then(Buffer::outcome).is_some_and(|twin| {
+        completed(step).map_or(false, |(key, outcome)| {
+            held(step, key.twin()).and_then(Buffer::outcome).map_or(false, |twin| {
                 matches!((outcome, twin), (Outcome::Data(..), Outcome::Data(..)))
                     && outcome.bytes() != twin.bytes()
             })
@@ -226,14 +228,14 @@ pub const SITUATIONS: &[(&str, Met)] = &[
     ("port 0 in a request", |step| names_port(step, |port, _| port == 0)),
     ("a port above the last in a request", |step| names_port(step, |port, last| port > last)),
     ("no lane, reply space too short", |step| {
-        no_lane(step) && step.call.space().is_some_and(|space| space < 64)
+        no_lane(step) && step.call.space().map_or(false, |space| space < 64)
     }),
     ("no lane, hub unconfigured", |step| {
         no_lane(step) && !step.before.configured && !matches!(step.call, Call::Control { .. })
     }),
     ("no lane, setup fields wrong", |step| {
         no_lane(step)
-            && setup(step.call).is_some_and(|setup| Request::read(Lane::Zero, setup).is_none())
+            && setup(step.call).map_or(false, |setup| Request::read(Lane::Zero, setup).is_none())
     }),
     ("no lane, length of the setup bytes wrong", |step| {
         no_lane(step) && matches!(step.call, Call::Control { setup, .. } if setup.len() != 8)
@@ -262,14 +264,14 @@ pub const SITUATIONS: &[(&str, Met)] = &[
     }),
     ("reply space too short, setup fields wrong", |step| {
         *step.reason == Reason::Number(answer::NO_SPACE)
-            && setup(step.call).is_some_and(|setup| Request::read(Lane::Zero, setup).is_none())
+            && setup(step.call).map_or(false, |setup| Request::read(Lane::Zero, setup).is_none())
     }),
     ("port right but for the index's high byte", |step| {
         let right = |setup: &[u8; 8]| {
             matches!(setup[..2], [0xA3, 0x00] | [0x23, 0x01 | 0x03])
                 && (1..=step.before.ports.len()).contains(&setup[4].into())
         };
-        wrong_things(step) == [Wrong::Index] && setup(step.call).is_some_and(right)
+        wrong_things(step) == [Wrong::Index] && setup(step.call).map_or(false, right)
     }),
     ("ClearTTBuffer of another transfer type", |step| clear_value(step, 0x0800)),
     ("ClearTTBuffer with a bit that stands for nothing", |step| clear_value(step, 0x6000)),
@@ -330,12 +332,12 @@ fn names_port(step: &Step, met: fn(usize, usize) -> bool) -> bool {
         && step.before.configured
         && request(step.call)
             .and_then(|request| request.port())
-            .is_some_and(|port| met(port.into(), step.before.ports.len()))
+            .map_or(false, |port| met(port.into(), step.before.ports.len()))
 }
 
 /// The event took place in such a state, where C_PORT_ENABLE read this before.
 fn event_in(step: &Step, wanted: Event, enable_change: bool, met: fn(State) -> bool) -> bool {
-    event(step).is_some_and(|(event, port)| {
+    event(step).map_or(false, |(event, port)| {
         event == wanted
             && met(port.state)
             && port.changed(Change::Enable) == enable_change
@@ -353,7 +355,7 @@ fn occupied(step: &Step) -> bool {
 
 /// The call gives a lane outside 0 and 1.
 fn no_lane(step: &Step) -> bool {
-    lanes::carrier(step.call).is_some_and(|(_, number)| number > 1)
+    lanes::carrier(step.call).map_or(false, |(_, number)| number > 1)
 }
 
 /// Each lane has a buffer that isn't empty.
@@ -365,7 +367,7 @@ fn both_lanes(step: &Step) -> bool {
 /// The places of the pending buffers aren't 0, 1, ..
 fn has_gap(translator: &Translator) -> bool {
     let places = || translator.buffers.iter().filter_map(Buffer::place);
-    places().max().is_some_and(|last| usize::from(last) >= places().count())
+    places().max().map_or(false, |last| usize::from(last) >= places().count())
 }
 
 fn abandoned(step: &Step) -> bool {
@@ -402,19 +404,20 @@ fn start(step: &Step) -> Option<(Token, Key)> {
 
 /// The key of a complete-split and the result that it gave.
 fn completed<'a>(step: &Step<'a>) -> Option<(Key, &'a Outcome)> {
-    let Call::CompleteSplit { lane, address, endpoint, direction, .. } = step.call else {
-        return None;
-    };
-    if answer::is_refusal(step.answer.number) {
-        return None;
+    match *step.call {
+        Call::CompleteSplit { lane, address, endpoint, direction, .. }
+            if !answer::is_refusal(step.answer.number) =>
+        {
+            let key = Key::from_numbers(lane, address, endpoint, direction)?;
+            Some((key, held(step, key)?.outcome()?))
+        }
+        _ => None,
     }
-    let key = Key::from_numbers(*lane, *address, *endpoint, *direction)?;
-    Some((key, held(step, key)?.outcome()?))
 }
 
 /// The other lane's buffer has the start-split's key.
 fn twin_held(step: &Step) -> bool {
-    start(step).is_some_and(|(_, key)| held(step, key.twin()).is_some())
+    start(step).map_or(false, |(_, key)| held(step, key.twin()).is_some())
 }
 
 /// All that is wrong with a refused request.
@@ -430,7 +433,7 @@ fn wrong_things(step: &Step) -> Vec<Wrong> {
 fn clear_value(step: &Step, bits: u16) -> bool {
     let set = |setup: &[u8; 8]| u16::from_le_bytes([setup[2], setup[3]]) & 0x6800;
     wrong_things(step) == [Wrong::Value]
-        && setup(step.call).is_some_and(|setup| {
+        && setup(step.call).map_or(false, |setup| {
             setup[..2] == [0x23, 0x08] && set(setup) & bits != 0 && set(setup) & !bits == 0
         })
 }
@@ -438,7 +441,7 @@ fn clear_value(step: &Step, bits: u16) -> bool {
 fn unsuited(step: &Step, token: Token) -> bool {
     matches!(step.call, Call::Deliver { .. })
         && step.answer.number == answer::NOT_NOW
-        && translator(step).running().is_some_and(|start| start.token == token)
+        && translator(step).running().map_or(false, |start| start.token == token)
 }
 
 /// A buffer holds fewer bytes than before, but isn't empty.

@@ -316,7 +316,10 @@ impl Translator {
             Some(number) => Some(number),
             None => self.buffers.iter().position(Buffer::is_free),
         };
-        let Some(number) = number else { return Answer::plain(answer::NAK) };
+        let number = match number {
+            Some(number) => number,
+            None => return Answer::plain(answer::NAK),
+        };
         let place = self.close_gaps();
         self.buffers[number] = Buffer::Pending { start, payload, place };
         Answer::plain(answer::DONE)
@@ -346,7 +349,10 @@ impl Translator {
     }
 
     pub fn complete(&mut self, key: Key) -> Answer {
-        let Some(number) = self.find(key) else { return Answer::plain(answer::STALL) };
+        let number = match self.find(key) {
+            Some(number) => number,
+            None => return Answer::plain(answer::STALL),
+        };
         let (start, outcome) = match &self.buffers[number] {
             Buffer::Ready(start, outcome) | Buffer::Old(start, outcome) => {
                 (start.clone(), outcome.clone())
@@ -365,8 +371,14 @@ impl Translator {
 
     /// The low side is idle.
     pub fn launch(&mut self) -> Answer {
-        let Some(number) = self.earliest() else { return Answer::plain(answer::NAK) };
-        let Buffer::Pending { start, payload, .. } = &self.buffers[number] else { unreachable!() };
+        let number = match self.earliest() {
+            Some(number) => number,
+            None => return Answer::plain(answer::NAK),
+        };
+        let (start, payload) = match &self.buffers[number] {
+            Buffer::Pending { start, payload, .. } => (start, payload),
+            _ => unreachable!(),
+        };
         self.low_side = LowSide::Running(number);
         Answer {
             pid: start.token.number(),
@@ -396,7 +408,7 @@ impl Translator {
     pub fn permits_delivery(&self, outcome: &Outcome) -> bool {
         match self.low_side {
             LowSide::Idle => false,
-            LowSide::Running(_) => self.running().is_some_and(|start| outcome.suits(start.token)),
+            LowSide::Running(_) => self.running().map_or(false, |start| outcome.suits(start.token)),
             LowSide::Abandoned => true,
         }
     }
