@@ -20,7 +20,8 @@ check: check-texts
 	rt check
 
 # Without a proof: the expected table of the port is the one that a model of its own writes, from the rules as document 01, corrected by C-12,
-# words them; the claims that docs/PROMISES.md names are those that functions ensure; docs/ARCHITECTURE.svg shows the crates as they are.
+# words them; the claims that docs/PROMISES.md names are those that functions ensure; docs/ARCHITECTURE.svg shows the crates as they are;
+# the constants of the headers are the numbers of the specs.
 check-texts:
 	rt fmt --check
 	python3 tests/port_table.py --self-test
@@ -31,6 +32,8 @@ check-texts:
 	python3 tests/reading.py --self-test
 	python3 tests/architecture.py --check
 	python3 tests/architecture.py --self-test
+	python3 tests/constants.py
+	python3 tests/constants.py --self-test
 
 lib: $(LIBRARY)
 
