@@ -9,7 +9,9 @@ For each compiler, two standards, -O0 and -O3, all warnings as errors:
   compares all bytes of each struct that the library returns.
 
 Then faults are planted in copies of the headers, and the compilers of the
-standards that have to notice must refuse them, the others must not.
+standards that have to notice must refuse them, the others must not.  And
+returned.c must fail with a library that returns structs another way: the C in
+place, built by GCC with -fpcc-struct-return.
 
 What is built goes to FOLDER.
 """
@@ -23,6 +25,7 @@ from typing import NamedTuple
 ROOT = os.path.join(os.path.dirname(os.path.abspath(__file__)), "..", "..")
 INCLUDE = os.path.join(ROOT, "include")
 RETURNED = os.path.join(ROOT, "tests", "build", "returned.c")
+IN_PLACE = os.path.join(ROOT, "tests", "inplace")
 WARNINGS = ["-Wall", "-Wextra", "-Werror", "-pedantic", "-Wconversion"]
 C, CXX = ("c99", "c11"), ("c++11", "c++17")
 OPTIMIZATIONS = ("-O0", "-O3")
@@ -64,9 +67,9 @@ def headers_of(include):
 class Runs:
     """Compiles and runs in a folder; `faults` collects what failed."""
 
-    def __init__(self, folder, library):
+    def __init__(self, folder, linked):
         self.folder = folder
-        self.libraries = [library] + os.environ.get("LDLIBS", "").split()
+        self.linked = linked
         self.faults = []
         self.last = ""  # what returned.c printed
 
@@ -92,7 +95,7 @@ class Runs:
     def returned(self, build, include=INCLUDE):
         program = self.path("returned")
         if self.succeeds(build, "returned.c is not built",
-                         build.command(RETURNED, include) + self.libraries
+                         build.command(RETURNED, include) + self.linked
                          + ["-o", program]):
             self.succeeds(build, "returned.c fails", [program])
 
@@ -157,13 +160,37 @@ def planted(plant, folder):
     return include
 
 
-def self_test(builds, folder, library):
+def other_convention(gcc, folder):
+    """Objects of the C in place that return structs in memory."""
+    objects = []
+    for name in sorted(os.listdir(IN_PLACE)):
+        if name.endswith(".c"):
+            objects.append(os.path.join(folder, name[:-1] + "o"))
+            holds, said = ran(gcc.split() + [
+                "-std=c99", "-fpcc-struct-return", "-DINPLACE_AS_LIBRARY",
+                "-I" + INCLUDE, "-c", os.path.join(IN_PLACE, name), "-o",
+                objects[-1]])
+            if not holds:
+                sys.exit("compilers: %s does not build %s\n%s" % (gcc, name,
+                                                                  said))
+    return objects
+
+
+def self_test(builds, folder, linked):
     """How many are not refused where they have to be, or are elsewhere."""
     missed = 0
+    other = other_convention(builds[0].compiler, folder)
+    for build in builds:
+        runs = Runs(folder, other)
+        runs.returned(build)
+        if not runs.faults or "is not built" in runs.faults[0]:
+            missed += 1
+            print("compilers: planted: structs returned another way, not "
+                  "found by %s" % (build,))
     for plant in PLANTS:
         include = planted(plant, folder)
         for build in builds:
-            runs = Runs(folder, library)
+            runs = Runs(folder, linked)
             if plant.is_returned:
                 runs.returned(build, include)
             else:
@@ -187,7 +214,8 @@ def main():
                      "the packages that the tests need" % compiler)
     os.makedirs(folder, exist_ok=True)
     builds = builds_of(compilers)
-    runs = Runs(folder, library)
+    linked = [library] + os.environ.get("LDLIBS", "").split()
+    runs = Runs(folder, linked)
     headers = headers_of(INCLUDE)
     for build in builds:
         for name in headers:
@@ -200,10 +228,10 @@ def main():
         return 1
     print(runs.last, end="")
     plain = [build for build in builds if build.optimization == "-O0"]
-    missed = self_test(plain, folder, library)
+    missed = self_test(plain, folder, linked)
     print("compilers: %s, %d builds, %d headers alone in each, %d planted "
           "faults" % ("FAILED" if missed else "passed", len(builds),
-                      len(headers), len(PLANTS)))
+                      len(headers), len(PLANTS) + 1))
     return missed != 0
 
 
