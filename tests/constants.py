@@ -7,8 +7,8 @@ constants.py --self-test  plants faults and fails unless each is found
 Demanded is that
 - every `#define` of include/*.h with a number is compared with a number of
   crates/*/specs, or stands in UNCOMPARED with the reason;
-- where the specs have a table (a definition by cases, a list of bits, the
-  requests), each row has a constant, or a number that is named here;
+- where the specs have a table (a definition by cases, a list of bits), each
+  row has its constants, or a number that is named in the table here;
 - the version's numbers and its text agree.
 
 A number is found by the text of its definition, comments left out.  What is
@@ -23,7 +23,7 @@ import sys
 sys.dont_write_bytecode = True
 from constants_read import (PREFIX, Project, cases_in, definition_of, list_in,
                             read_texts)
-from constants_table import COMPARED, UNCOMPARED, Bits, Cases, Requests
+from constants_table import COMPARED, UNCOMPARED, Bits, Cases
 
 ROOT = os.path.join(os.path.dirname(os.path.abspath(__file__)), "..")
 
@@ -94,35 +94,26 @@ def table_plants(texts):
             yield ("%s %s" % (place, name), put(
                 texts, place.file(), start, end, new), str(place))
     for way in COMPARED:
-        rows = {Cases: case_plants, Bits: bit_plants,
-                Requests: request_plants}.get(type(way), lambda *_: ())
-        for start, end, new, expected in rows(texts, way.place):
+        rows = {Cases: case_plants, Bits: bit_plants}.get(type(way))
+        for start, end, new, expected in rows(texts, way) if rows else ():
             expected = "%s has %s" % (way.place, expected)
             yield (expected, put(texts, way.place.file(), start, end, new),
                    expected)
 
 
-def case_plants(texts, place):
-    name, said = list(cases_in(texts, place).items())[-1]
-    line = texts[place.file()].rindex("\n", 0, said.start)
-    yield (said.end, said.end, "\n%s Spare = %s" % (place.definition,
-                                                    said.text),
-           "the case Spare")
+def case_plants(texts, cases):
+    name, said = list(cases_in(texts, cases).items())[-1]
+    line = texts[cases.place.file()].rindex("\n", 0, said.start)
+    spare = " ".join([cases.place.definition, *cases.before.split(), "Spare",
+                      "=", said.text])
+    yield said.end, said.end, "\n" + spare, "the case Spare"
     yield line, said.end, "", "no case " + name
 
 
-def bit_plants(texts, place):
-    first = list_in(texts, place)[0]
+def bit_plants(texts, bits):
+    first = list_in(texts, bits.place)[0]
     yield first.start, first.start, "spare ∷ ", "the bit spare"
     yield first.start, first.end, "false", "no bit " + first.text
-
-
-def request_plants(texts, place):
-    text, start, _ = definition_of(texts, place)
-    row = text.index("cond", start)
-    yield (row, row, "cond (eqb type 0x23 && eqb code 0x0A) Spare\n    (",
-           "the row Spare")
-    yield row, row + len("cond"), "spare", "no row SetConfiguration"
 
 
 def self_test(texts):

@@ -7,7 +7,7 @@ import re
 from typing import NamedTuple
 
 from constants_table import (AREA_PARTS, COMPARED, UNCOMPARED, Bits, Cases,
-                             Count, Place, Requests, Shape, same)
+                             Count, Place, Said, Shape, To)
 
 PREFIX = "GRIMHOLDI_"
 
@@ -110,13 +110,16 @@ def definitions_in(text):
                   for head, end in zip(heads, ends)]
 
 
+SIGNS = {"#": NUMBER, "?": r"[\w'.-]+", "..": r".*"}
+
+
 @functools.lru_cache(maxsize=None)
 def expression(text):
-    """A text with # and ? as a regular expression."""
-    parts = {"#": NUMBER, "?": r"[\w'.-]+"}
-    return r"\s+".join(
-        "".join(parts.get(sign, re.escape(sign)) for sign in word)
-        for word in text.split())
+    """A text with #, ? and .. as a regular expression."""
+    words = [SIGNS.get(word) or "".join(
+        SIGNS.get(sign) or re.escape(sign) for sign in word)
+        for word in text.split()]
+    return re.compile(r"\s+".join(words), re.S)
 
 
 class Found(NamedTuple):
@@ -141,34 +144,41 @@ def definition_of(texts, place):
     return text, found[0][0], found[0][1]
 
 
+def numbers_in(match, start):
+    """The numbers of a match, as Found; `start` is where the text begins."""
+    return [Found(match.group(i), start + match.start(i), start + match.end(i))
+            for i in range(1, match.re.groups + 1)]
+
+
 def shape_in(texts, shape):
     """The numbers of the shape, as Found."""
     text, start, end = definition_of(texts, shape.place)
-    whole = shape.text.startswith("=")
-    pattern = expression(shape.text) + (r"\s*\Z" if whole else "")
-    found = list(re.finditer(pattern, text[start:end]))
+    found = list(expression(shape.text).finditer(text[start:end].rstrip()))
+    if shape.text.startswith("="):
+        found = [match for match in found
+                 if match.end() == len(match.string)]
     if len(found) != 1:
         raise Fault("%s has '%s' %d times" % (shape.place, shape.text,
                                               len(found)))
-    return [Found(found[0].group(i), start + found[0].start(i),
-                  start + found[0].end(i))
-            for i in range(1, found[0].re.groups + 1)]
+    return numbers_in(found[0], start)
 
 
-def cases_in(texts, place):
+def cases_in(texts, cases):
     """What the definition says in each case, as Found."""
-    text, start, end = definition_of(texts, place)
+    text, start, end = definition_of(texts, cases.place)
+    words = [cases.place.definition] + cases.before.split()
     clause = re.compile(r"^%s +\(?(?:\w+\.)?(\w+)[^=\n]*=\s*"
-                        % re.escape(place.definition), re.M)
+                        % " +".join(map(re.escape, words)), re.M)
     heads = list(clause.finditer(text, start, end))
     ends = [head.start() for head in heads[1:]] + [end]
-    cases = {}
+    found = {}
     for head, limit in zip(heads, ends):
-        if head.group(1) in cases:
-            raise Fault("%s has the case %s twice" % (place, head.group(1)))
+        if head.group(1) in found:
+            raise Fault("%s has the case %s twice" % (cases.place,
+                                                      head.group(1)))
         said = text[head.end():limit].rstrip()
-        cases[head.group(1)] = Found(said, head.end(), head.end() + len(said))
-    return cases
+        found[head.group(1)] = Found(said, head.end(), head.end() + len(said))
+    return found
 
 
 def list_in(texts, place):
@@ -217,7 +227,7 @@ class Project:
         self.comparisons = []
         self.attempt(self.headers, texts)
         ways = {Shape: self.shape, Cases: self.cases, Bits: self.bits,
-                Count: self.count, Requests: self.requests}
+                Count: self.count}
         for way in COMPARED:
             self.attempt(ways[type(way)], way)
         self.attempt(self.area, AREA_PARTS)
@@ -253,18 +263,21 @@ class Project:
                                            found.start, found.end, wrong))
 
     def shape(self, shape):
-        numbers = shape_in(self.texts, shape)
-        if len(numbers) != len(shape.constants):
+        self.numbers_are(shape.place, shape_in(self.texts, shape),
+                         shape.constants)
+
+    def numbers_are(self, place, numbers, constants):
+        if len(numbers) != len(constants):
             raise Fault("%s has %d numbers, and %d constants" % (
-                shape.place, len(numbers), len(shape.constants)))
-        for found, given in zip(numbers, shape.constants):
-            for to in given if isinstance(given, list) else [given]:
-                to = same(to) if isinstance(to, str) else to
-                self.compare(to.constant, to.value(found.number()),
-                             shape.place, found, other(found.number()))
+                place, len(numbers), len(constants)))
+        for found, to in zip(numbers, constants):
+            number = found.number()
+            constant, value = to if isinstance(to, To) else (
+                to, lambda same: same)
+            self.compare(constant, value(number), place, found, other(number))
 
     def cases(self, cases):
-        found = cases_in(self.texts, cases.place)
+        found = cases_in(self.texts, cases)
         self.both_ways(cases, found, "case")
         for name in cases.rows:
             if name in found:
@@ -273,26 +286,17 @@ class Project:
     def case(self, cases, name, found):
         row = cases.rows[name]
         if isinstance(row, str) and row.startswith("= "):
-            said = " ".join(found.text.split())
-            self.comparisons.append(Comparison(
-                None, said == row[2:], cases.place, found.start, found.end,
-                "99"))
-            if said != row[2:]:
-                self.fault("%s %s is '%s', not '%s'", cases.place, name, said,
-                           row[2:])
-            return
-        matches = [match for match in
-                   (re.match(expression(value), found.text)
-                    for value in cases.values) if match]
-        if len(matches) != 1:
-            self.fault("%s %s is '%s', which has no number", cases.place,
-                       name, found.text)
-            return
-        start, end = matches[0].span(1)
-        number = Found(found.text[start:end], found.start + start,
-                       found.start + end)
-        self.compare(row, number.number(), cases.place, number,
-                     other(number.number()))
+            row = Said(row[2:], [])
+            self.compare(None, None, cases.place, found, "99")
+        elif not isinstance(row, Said):
+            row = Said(cases.text, [row])
+        match = expression(row.text).fullmatch(found.text)
+        if match:
+            self.numbers_are(cases.place, numbers_in(match, found.start),
+                             row.constants)
+        else:
+            self.fault("%s %s is '%s', not '%s'", cases.place, name,
+                       " ".join(found.text.split()), row.text)
 
     def bits(self, bits):
         elements = list_in(self.texts, bits.place)
@@ -309,25 +313,6 @@ class Project:
         elements = list_in(self.texts, count.place)
         self.compare(count.constant, len(elements), count.place, elements[-1],
                      "0 ∷ " + elements[-1].text)
-
-    def requests(self, requests):
-        text, start, end = definition_of(self.texts, requests.place)
-        row = re.compile(expression("cond (eqb type # && eqb code #)")
-                         + r"\s+(\w+)")
-        found = {}
-        for match in row.finditer(text, start, end):
-            if match.group(3) in found:
-                self.fault("%s has the row %s twice", requests.place,
-                           match.group(3))
-            found[match.group(3)] = match
-        self.both_ways(requests, found, "row")
-        for name, constants in requests.rows.items():
-            for i, constant in enumerate(constants, 1):
-                if name in found:
-                    number = Found(found[name].group(i), found[name].start(i),
-                                   found[name].end(i))
-                    self.compare(constant, number.number(), requests.place,
-                                 number, other(number.number()))
 
     def area(self, parts):
         found = shape_in(self.texts, parts)

@@ -1,5 +1,6 @@
 """What constants.py compares: constants of the headers, without GRIMHOLDI_,
-and where the specs have their numbers.
+and where the specs have their numbers: in files that a reader must believe
+(docs/READING.md), but for the length of the answers' space.
 """
 
 from typing import NamedTuple
@@ -19,16 +20,17 @@ class Place(NamedTuple):
 
 # Crate, file and definition.  A definition that is renamed or moves is one
 # line here.
+VERSION = Place("grimholdi", "Version", "version")
 NEW_FITS = Place("hub", "Hub", "newFits")
 NEW_HUB = Place("hub", "Hub", "newHub")
+COUNTS_OUTSIDE = Place("hub", "New", "CountsOutside")
+NEW_HUBS = Place("grimholdi", "New", "NewHubs")
+ENTRY_REFUSED = Place("grimholdi", "Outcome", "refused")
 DONE = Place("hub", "Call", "done")
 STALL = Place("hub", "Call", "stall")
 NOTHING = Place("hub", "Call", "givesNothing")
 DATA = Place("hub", "Call", "gives")
 DESCRIPTOR = Place("hub", "Requests", "descriptor")
-WITHIN = Place("hub", "Checks", "within")
-HAS_SPACE = Place("hub", "Checks", "hasSpace")
-FIRST_REFUSAL = Place("hub", "Checks", "firstRefusal")
 REFUSALS = Place("runs", "Refusals", "numberOf")
 OVER_ADDRESS = Place("runs", "Refusals", "OverAddress")
 OVER_ENDPOINT = Place("runs", "Refusals", "OverEndpoint")
@@ -52,35 +54,32 @@ TYPES = Place("numbers", "Written", "typeNumber")
 DIRECTIONS = Place("numbers", "Written", "directionNumber")
 RESULTS_WRITTEN = Place("numbers", "Written", "resultWritten")
 EVENTS = Place("numbers", "Written", "eventNumber")
-SPLIT_NAMED = Place("numbers", "Split", "splitNamed")
-KEY_NAMED = Place("numbers", "Split", "keyNamed")
 NUMBERS_FIT = Place("buffer", "Lengths", "numbersFit")
 START_LENGTH = Place("buffer", "Lengths", "startLength")
 RESULT_LENGTH = Place("buffer", "Lengths", "resultLength")
-STEPS = Place("port", "Method", "numberOf")
+STEP_DONE = Place("port", "Reaction", "doneWith")
+STEP_REFUSED = Place("port", "Reaction", "reacted")
 TICK = Place("port", "Tick", "tick")
 STATUS_LOW = Place("port", "Status", "statusLow")
 STATUS_HIGH = Place("port", "Status", "statusHigh")
 CHANGE_LOW = Place("port", "Status", "changeLow")
-REQUEST_KINDS = Place("request", "Table", "kindOf")
-VALUE_FITS = Place("request", "Table", "valueFits")
-SETTABLE = Place("request", "Values", "isSettable")
-SETTABLES = Place("request", "Values", "settableOf")
-CLEARABLE = Place("request", "Values", "isClearable")
-CLEARABLES = Place("request", "Values", "clearableOf")
-CHANGES = Place("request", "Values", "changeOf")
-IS_PIPE = Place("request", "Values", "isPipe")
-PIPE_IN = Place("request", "Values", "pipeIn")
+SETTABLES = Place("request", "Fields", "settableNumber")
+CLEARABLES = Place("request", "Fields", "clearableNumber")
+CHANGES = Place("request", "Fields", "changeNumber")
+DIRECTION_BITS = Place("request", "Fields", "directionBit")
+PIPE_VALUE = Place("request", "Fields", "pipeValue")
+PIPE_IN_RANGE = Place("request", "Fields", "PipeInRange")
+ASKS_FOR = Place("request", "Fields", "AsksFor")
 STATES = Place("area", "Written", "stateByte")
 SPEEDS = Place("area", "Written", "speedNumber")
 AREA_LENGTH = Place("area", "Written", "areaLength")
 LAYOUTS = Place("call_bytes", "Table", "layoutOf")
-BLOCK_LENGTH = Place("recording", "Block", "lengthFits")
-BLOCK_COUNT = Place("recording", "Block", "countFits")
 WRITABLE = Place("recording", "Written", "Writable")
-BLOCK_START = Place("grimholdi_block", "Writing", "startEntry")
-BLOCK_ADD = Place("grimholdi_block", "Writing", "addEntry")
-BLOCK_FINISH = Place("grimholdi_block", "Writing", "finishEntry")
+PADDED = Place("recording", "Written", "padded")
+COUNT_RIGHT = Place("recording", "Refusals", "CountRight")
+RIGHT = Place("recording", "Refusals", "Right")
+WRITER = Place("grimholdi_block", "Writer", "WriterExact")
+UNDER_WAY = Place("grimholdi_block", "Writer", "UnderWay")
 ANSWERS_LENGTH = Place("replay", "Code", "answersLength")
 BLOCK_REFUSALS = Place("grimholdi_replay", "Entry", "refusalNumber")
 REPLAYED = Place("grimholdi_replay", "Entry", "replayedAs")
@@ -89,29 +88,22 @@ IS_NUMBER = Place("why", "Said", "isNumber")
 FAULTS = Place("why", "Said", "place")
 REASONS = Place("why", "Bytes", "bytesOf")
 NO_CHANGES = Place("why", "Bytes", "plainBytes")
-ENTRY_REFUSED = Place("grimholdi", "Outcome", "refused")
-ENTRY_NEW = Place("grimholdi", "Entry", "newEntry")
-VERSION = Place("grimholdi", "Version", "version")
 
 
-# What a constant is to a number of the specs.
+# What a constant is to a number of the specs, if not the same.
 
 class To(NamedTuple):
     constant: str
     value: object  # of the number
 
 
-def same(constant):
-    return To(constant, lambda number: number)
-
-
-def last(constant):
+def below(constant):
     """The number is the first that is too large."""
     return To(constant, lambda number: number - 1)
 
 
-def following(constant):
-    """The number is the one before."""
+def above(constant):
+    """The number is the last that is too small."""
     return To(constant, lambda number: number + 1)
 
 
@@ -121,27 +113,40 @@ def shift(constant):
               if number > 0 and number & (number - 1) == 0 else None)
 
 
-def zero(constant):
+def unshifted(constant):
+    """What stands before the number is not multiplied."""
     return To(constant, lambda number: 0)
 
 
-# Ways to find numbers.
+def high_byte(constant):
+    return To(constant, lambda number: 256 * number)
+
+
+# Ways to find numbers.  In a text # is a number, ? a name, .. anything.
 
 class Shape(NamedTuple):
-    """A text of the definition; # is a number, ? a name.  `constants` has a
-    name, a To or a list of them for each #.  If it begins with =, it is all
-    that the definition says."""
+    """A text that the definition has once.  `constants` has for each # a
+    constant, a To, or a number that has no constant.  A text that begins with
+    = is all that the definition says."""
     place: Place
     text: str
     constants: list
 
 
+class Said(NamedTuple):
+    """What a definition says in one case, and the constants as above."""
+    text: str
+    constants: list
+
+
 class Cases(NamedTuple):
-    """A definition by cases.  A case has its number behind one of `values`.
-    A row is a constant, a number that has none, or = and another text."""
+    """A definition by cases.  A row is a Said, or a constant or number for
+    the # of `text`, or = and a text without #.  `before` are the arguments
+    before the one that tells the cases."""
     place: Place
     rows: dict
-    values: tuple = ("#",)
+    text: str = "#"
+    before: str = ""
 
 
 class Bits(NamedTuple):
@@ -157,71 +162,47 @@ class Count(NamedTuple):
     constant: str
 
 
-class Requests(NamedTuple):
-    """The table of requests: type and code of each."""
-    place: Place
-    rows: dict
-
-
 SET_PORT = "TYPE_SET_PORT"
-GET_HUB = "TYPE_GET_HUB"
+CLEAR_TT = [SET_PORT, "REQUEST_CLEAR_TT_BUFFER"]
+CLEAR_HUB = ["TYPE_SET_HUB", "REQUEST_CLEAR_FEATURE"]
 COMPARED = [
     Shape(VERSION, "= #", ["VERSION_NUMBER"]),
 
     # Limits.
     Shape(NEW_FITS, "(leb # n && leb n #) && (leb # b && leb b #)",
           ["PORTS_MIN", "PORTS_MAX", "BUFFERS_MIN", "BUFFERS_MAX"]),
+    Shape(COUNTS_OUTSIDE, "= (n < #) ⊎ (# < n) ⊎ (b < #) ⊎ (# < b)",
+          ["PORTS_MIN", "PORTS_MAX", "BUFFERS_MIN", "BUFFERS_MAX"]),
     Shape(AREA_LENGTH, "(leb # n && leb n #) && (leb # b && leb b #)",
           ["PORTS_MIN", "PORTS_MAX", "BUFFERS_MIN", "BUFFERS_MAX"]),
     Shape(NO_CHANGES, "changes = replicate # 0", ["PORTS_MAX"]),
     Cases(LANES, {"Zero": 0, "One": "LANE_MAX"}),
-    Shape(SPLIT_NAMED, "ltb address # && ltb endpoint #",
-          [last("ADDRESS_MAX"), last("ENDPOINT_MAX")]),
-    Shape(KEY_NAMED, "ltb address # && ltb endpoint #",
-          [last("ADDRESS_MAX"), last("ENDPOINT_MAX")]),
-    Shape(NUMBERS_FIT, "ltb (s .address .0) # && ltb (s .endpoint) #",
-          [last("ADDRESS_MAX"), last("ENDPOINT_MAX")]),
+    Shape(UNKNOWN_LANE, "= # < z", ["LANE_MAX"]),
     Shape(OVER_ADDRESS, "= # < a", ["ADDRESS_MAX"]),
     Shape(OVER_ENDPOINT, "= # < e", ["ENDPOINT_MAX"]),
-    Cases(START_LENGTH, {"Out": "PAYLOAD_MAX", "In": 0,
-                         "Setup": "SETUP_LENGTH"}, ("leb n #", "eqb n #")),
-    Shape(RESULT_LENGTH, "leb n #", ["PAYLOAD_MAX"]),
-    Shape(WITHIN, "eqb (length s) #", ["SETUP_LENGTH"]),
+    Shape(NUMBERS_FIT, "ltb (s .address .0) # && ltb (s .endpoint) #",
+          [below("ADDRESS_MAX"), below("ENDPOINT_MAX")]),
+    Shape(PIPE_IN_RANGE, "= (k .address .0 < #) × (k .endpoint < #)",
+          [below("ADDRESS_MAX"), below("ENDPOINT_MAX")]),
     Shape(OVER_PAYLOAD, "= # < n", ["PAYLOAD_MAX"]),
-    Shape(UNKNOWN_LANE, "= # < z", ["LANE_MAX"]),
+    Cases(START_LENGTH, {"Out": Said("leb n #", ["PAYLOAD_MAX"]),
+                         "In": Said("eqb n #", [0]),
+                         "Setup": Said("eqb n #", ["SETUP_LENGTH"])}),
+    Shape(RESULT_LENGTH, "leb n #", ["PAYLOAD_MAX"]),
     Shape(WRONG_SETUP, "¬ (n ≡ #)", ["SETUP_LENGTH"]),
     Shape(OUTSIDE, "¬ (length s ≡ #)", ["SETUP_LENGTH"]),
-    Cases(HAS_SPACE, {"Control": "REPLY_LENGTH", "Poll": "REPLY_LENGTH",
-                      "Start": "= true", "Complete": "REPLY_LENGTH",
-                      "Launch": "REPLY_LENGTH", "Deliver": "= true",
-                      "Event": "= true", "Tick": "= true",
-                      "BusReset": "= true"}, ("leb # room",)),
     Cases(SHORT, {"Control": "REPLY_LENGTH", "Poll": "REPLY_LENGTH",
                   "Start": "= ⊥", "Complete": "REPLY_LENGTH",
                   "Launch": "REPLY_LENGTH", "Deliver": "= ⊥", "Event": "= ⊥",
-                  "Tick": "= ⊥", "BusReset": "= ⊥"}, ("room < #",)),
-    Shape(BLOCK_LENGTH, "= eqb (length l) #", ["BLOCK_LENGTH"]),
-    Shape(BLOCK_COUNT, "leb (countOf l) #",
-          [[same("BLOCK_USED_MAX"), same("RECORD_SPACE")]]),
-    Shape(WRITABLE, "p ≤ #", ["BLOCK_NUMBER_MAX"]),
-    Shape(WRITABLE, "length (writtenAll cs) ≤ #", ["BLOCK_USED_MAX"]),
-    Shape(BLOCK_START, "leb p #", ["BLOCK_NUMBER_MAX"]),
-    Shape(BLOCK_ADD, "leb (countOf l + length r) #", ["BLOCK_USED_MAX"]),
-    Shape(ANSWERS_LENGTH, "= #", ["ANSWERS_LENGTH"]),
-    Shape(TICK, "(Resetting s t) = cond (ltb t #)",
-          [following("RESET_TICKS")]),
-    Shape(TICK, "(Resuming s t) = cond (ltb t #)",
-          [following("RESUME_TICKS")]),
+                  "Tick": "= ⊥", "BusReset": "= ⊥"}, "room < #"),
+    Shape(TICK, "(Resetting s t) = cond (ltb t #)", [above("RESET_TICKS")]),
+    Shape(TICK, "(Resuming s t) = cond (ltb t #)", [above("RESUME_TICKS")]),
 
     # Answers.
     Shape(DONE, "= plain h #", ["ANSWER_DONE"]),
     Shape(STALL, "= refuse # h", ["ANSWER_STALL"]),
     Shape(NOTHING, "= refuse # h", ["ANSWER_NAK"]),
     Shape(DATA, "answer = pidAnswer # 0 l", ["ANSWER_DATA"]),
-    Shape(FIRST_REFUSAL,
-          "= unless w # (unless r # (unless s # (unless f # #)))",
-          ["ANSWER_OUTSIDE", "ANSWER_NO_SPACE", "ANSWER_SILENT",
-           "ANSWER_NOT_NOW", "ANSWER_DONE"]),
     Cases(REFUSALS, {"outside": "ANSWER_OUTSIDE", "short": "ANSWER_NO_SPACE",
                      "silent": "ANSWER_SILENT",
                      "misplaced": "ANSWER_NOT_NOW", "stall": "ANSWER_STALL",
@@ -246,20 +227,15 @@ COMPARED = [
     Cases(DELIVERS, {"Outside": "ANSWER_OUTSIDE",
                      "NotInThisState": "ANSWER_NOT_NOW",
                      "Done": "ANSWER_DONE"}),
-    Cases(STEPS, {"Done": "ANSWER_DONE", "NotInThisState": "ANSWER_NOT_NOW"}),
+    Shape(STEP_DONE, "= record { port = p; number = # }", ["ANSWER_DONE"]),
+    Shape(STEP_REFUSED, "refused = record { port = p; number = # }",
+          ["ANSWER_NOT_NOW"]),
     Shape(NEW_HUB, "number = #; hub = hubOf n b g c r", ["ANSWER_DONE"]),
     Shape(NEW_HUB, "number = #; hub = hubOf 0 0 0 0 0", ["ANSWER_OUTSIDE"]),
-    Shape(ENTRY_NEW, "answer = ? #;", ["ANSWER_DONE"]),
+    Shape(NEW_HUBS, "(f a n b g c r .answer .number ≡ #)",
+          ["ANSWER_OUTSIDE"]),
+    Shape(NEW_HUBS, "answer = ? #;", ["ANSWER_DONE"]),
     Shape(ENTRY_REFUSED, "answer = ? #;", ["ANSWER_OUTSIDE"]),
-    Shape(BLOCK_START, "(? # (? p l)) (? # l)",
-          ["ANSWER_DONE", "ANSWER_OUTSIDE"]),
-    Shape(BLOCK_ADD, "(? # (? l r)) (? # l)) (? # l)",
-          ["ANSWER_DONE", "ANSWER_NAK", "ANSWER_OUTSIDE"]),
-    Shape(BLOCK_FINISH, "(? # (? l)) (? # l)",
-          ["ANSWER_DONE", "ANSWER_OUTSIDE"]),
-    Shape(REPLAYED, "number = #;", ["ANSWER_DONE"]),
-    Shape(REPLAY, "(? # a o)) (? # a o)",
-          ["ANSWER_NO_SPACE", "ANSWER_OUTSIDE"]),
 
     # Numbers that calls take and give.
     Cases(PIDS, {"Out": "PID_OUT", "In": "PID_IN", "Setup": "PID_SETUP"}),
@@ -282,54 +258,57 @@ COMPARED = [
                    "OverCurrentOff": "EVENT_OVER_CURRENT_OFF"}),
 
     # Requests.
-    Requests(REQUEST_KINDS, {
-        "SetConfiguration": ("TYPE_SET_CONFIGURATION",
-                             "REQUEST_SET_CONFIGURATION"),
-        "GetConfiguration": ("TYPE_GET_CONFIGURATION",
-                             "REQUEST_GET_CONFIGURATION"),
-        "GetHubDescriptor": (GET_HUB, "REQUEST_GET_DESCRIPTOR"),
-        "GetHubStatus": (GET_HUB, "REQUEST_GET_STATUS"),
-        "GetPortStatus": ("TYPE_GET_PORT", "REQUEST_GET_STATUS"),
-        "ClearHubFeature": ("TYPE_SET_HUB", "REQUEST_CLEAR_FEATURE"),
-        "ClearPortFeature": (SET_PORT, "REQUEST_CLEAR_FEATURE"),
-        "SetPortFeature": (SET_PORT, "REQUEST_SET_FEATURE"),
-        "ClearTTBuffer": (SET_PORT, "REQUEST_CLEAR_TT_BUFFER"),
-        "ResetTT": (SET_PORT, "REQUEST_RESET_TT"),
-    }),
-    Shape(VALUE_FITS, "GetHubDescriptor v = eqb v #", ["HUB_DESCRIPTOR"]),
+    Cases(ASKS_FOR, {
+        "Wrong": "= Unit {0}",
+        "SetConfiguration": Said("s ≡ fields # # (cond one 1 0) 0 0",
+                                 ["TYPE_SET_CONFIGURATION",
+                                  "REQUEST_SET_CONFIGURATION"]),
+        "GetConfiguration": Said("s ≡ fields # # 0 0 1",
+                                 ["TYPE_GET_CONFIGURATION",
+                                  "REQUEST_GET_CONFIGURATION"]),
+        "GetHubDescriptor": Said("s ≡ fields # # # 0 l",
+                                 ["TYPE_GET_HUB", "REQUEST_GET_DESCRIPTOR",
+                                  "HUB_DESCRIPTOR"]),
+        "GetHubStatus": Said("s ≡ fields # # 0 0 4",
+                             ["TYPE_GET_HUB", "REQUEST_GET_STATUS"]),
+        "GetPortStatus": Said("PortOf n p × (s ≡ fields # # 0 (p .0) 4)",
+                              ["TYPE_GET_PORT", "REQUEST_GET_STATUS"]),
+        "ClearHubFeature": Said("(s ≡ fields # # # 0 0) "
+                                "⊎ (s ≡ fields # # # 0 0)",
+                                CLEAR_HUB + ["C_HUB_LOCAL_POWER"]
+                                + CLEAR_HUB + ["C_HUB_OVER_CURRENT"]),
+        "ClearPortFeature": Said("PortOf n p × (s ≡ fields # # "
+                                 "(clearableNumber f) (p .0) 0)",
+                                 [SET_PORT, "REQUEST_CLEAR_FEATURE"]),
+        "SetPortFeature": Said("PortOf n p × (s ≡ fields # # "
+                               "(settableNumber f) (p .0) 0)",
+                               [SET_PORT, "REQUEST_SET_FEATURE"]),
+        "ClearTTBuffer": Said("PipeInRange k × "
+                              "((s ≡ fields # # (pipeValue # k) 1 0) "
+                              "⊎ (s ≡ fields # # (pipeValue # k) 1 0))",
+                              CLEAR_TT + ["TRANSFER_CONTROL"]
+                              + CLEAR_TT + ["TRANSFER_BULK"]),
+        "ResetTT": Said("s ≡ fields # # 0 1 0",
+                        [SET_PORT, "REQUEST_RESET_TT"]),
+    }, before="n s"),
     Shape(DESCRIPTOR, "descriptor i = # ∷ # ∷ i .ports",
-          ["HUB_DESCRIPTOR_LENGTH",
-           To("HUB_DESCRIPTOR", lambda number: 256 * number)]),
+          ["HUB_DESCRIPTOR_LENGTH", high_byte("HUB_DESCRIPTOR")]),
     Count(DESCRIPTOR, "HUB_DESCRIPTOR_LENGTH"),
-    # 0 and 1
-    Shape(VALUE_FITS, "ClearHubFeature v = leb v #",
-          [[last("C_HUB_LOCAL_POWER"), same("C_HUB_OVER_CURRENT")]]),
-    Shape(SETTABLE, "= eqb v # || (eqb v # || eqb v #)",
-          ["PORT_SUSPEND", "PORT_RESET", "PORT_POWER"]),
-    Shape(SETTABLES, "= cond (eqb v #) settable.Suspend "
-          "(cond (eqb v #) settable.Reset settable.Power)",
-          ["PORT_SUSPEND", "PORT_RESET"]),
-    Shape(CLEARABLE, "= eqb v # || (eqb v # || (eqb v # || "
-          "(leb # v && leb v #)))",
-          ["PORT_ENABLE", "PORT_SUSPEND", "PORT_POWER", "C_PORT_CONNECTION",
-           "C_PORT_RESET"]),
-    Shape(CLEARABLES, "= cond (eqb v #) clearable.Enable "
-          "(cond (eqb v #) clearable.Suspend (cond (eqb v #) clearable.Power "
-          "(clearable.Change (changeOf v))))",
-          ["PORT_ENABLE", "PORT_SUSPEND", "PORT_POWER"]),
-    Shape(CHANGES, "= cond (eqb v #) change.Connection "
-          "(cond (eqb v #) change.Enable (cond (eqb v #) change.Suspend "
-          "(cond (eqb v #) change.OverCurrent change.Reset)))",
-          ["C_PORT_CONNECTION", "C_PORT_ENABLE", "C_PORT_SUSPEND",
-           "C_PORT_OVER_CURRENT"]),
-    Shape(IS_PIPE, "(eqb (v / # % 4) # || eqb (v / # % 4) #)",
-          [shift("TT_TRANSFER_SHIFT"), "TRANSFER_CONTROL",
-           shift("TT_TRANSFER_SHIFT"), "TRANSFER_BULK"]),
-    Shape(PIPE_IN, "= record { address = record { 0 = v / # % # }; "
-          "endpoint = v % #; direction = directionIn (v / #) }",
-          [shift("TT_ADDRESS_SHIFT"), last("ADDRESS_MAX"),
-           [last("ENDPOINT_MAX"), zero("TT_ENDPOINT_SHIFT")],
+    Cases(SETTABLES, {"Suspend": "PORT_SUSPEND", "Reset": "PORT_RESET",
+                      "Power": "PORT_POWER"}),
+    Cases(CLEARABLES, {"Enable": "PORT_ENABLE", "Suspend": "PORT_SUSPEND",
+                       "Power": "PORT_POWER", "Change": "= changeNumber b"}),
+    Cases(CHANGES, {"Connection": "C_PORT_CONNECTION",
+                    "Enable": "C_PORT_ENABLE", "Suspend": "C_PORT_SUSPEND",
+                    "OverCurrent": "C_PORT_OVER_CURRENT",
+                    "Reset": "C_PORT_RESET"}),
+    Shape(PIPE_VALUE, "t k = k .endpoint + # *",
+          [unshifted("TT_ENDPOINT_SHIFT")]),
+    Shape(PIPE_VALUE, "= k .endpoint + # * (k .address .0) + # * t "
+          "+ # * directionBit (k .direction)",
+          [shift("TT_ADDRESS_SHIFT"), shift("TT_TRANSFER_SHIFT"),
            shift("TT_DIRECTION_SHIFT")]),
+    Cases(DIRECTION_BITS, {"Out": "DIRECTION_OUT", "In": "DIRECTION_IN"}),
 
     # Status.
     Bits(STATUS_LOW, 0, {"portConnection (p .state)": "STATUS_CONNECTION",
@@ -350,14 +329,31 @@ COMPARED = [
     Cases(REASONS, {"Nothing": "WHY_NONE", "Number": "WHY_NUMBER",
                     "HeldBy": "WHY_HELD", "Reused": "WHY_REUSED",
                     "TookFree": "WHY_TOOK_FREE", "LimitReached": "WHY_LIMIT",
-                    "NoRoom": "WHY_NO_ROOM", "Changed": "WHY_CHANGES",
-                    "Wrong": "WHY_WRONG"}, ("? #", "record { kind = #;")),
+                    "NoRoom": "WHY_NO_ROOM",
+                    "Changed": Said("record { kind = #; ..", ["WHY_CHANGES"]),
+                    "Wrong": "WHY_WRONG"}, "plainBytes # .."),
     Cases(FAULTS, {"TypeOrCode": "WRONG_TYPE_OR_CODE",
                    "Unconfigured": "WRONG_UNCONFIGURED",
                    "Value": "WRONG_VALUE", "Index": "WRONG_INDEX",
                    "Length": "WRONG_LENGTH"}),
 
     # Recordings.
+    Shape(RIGHT, "BadLength p l = length l ≡ #", ["BLOCK_LENGTH"]),
+    Shape(UNDER_WAY, "length l ≡ #", ["BLOCK_LENGTH"]),
+    Shape(COUNT_RIGHT, "countOf l ≤ #", ["BLOCK_USED_MAX"]),
+    Shape(PADDED, "replicate (# - length used) 0", ["BLOCK_USED_MAX"]),
+    Shape(WRITABLE, "length (writtenAll cs) ≤ #", ["RECORD_SPACE"]),
+    Shape(WRITABLE, "p ≤ #", ["BLOCK_NUMBER_MAX"]),
+    Shape(WRITER, "length l ≡ # → 1 ≤ p → p ≤ # → startEntry l p ≡ ? #",
+          ["BLOCK_LENGTH", "BLOCK_NUMBER_MAX", "ANSWER_DONE"]),
+    Shape(WRITER, "(p ≤ #))) → startEntry l p ≡ ? # l",
+          ["BLOCK_NUMBER_MAX", "ANSWER_OUTSIDE"]),
+    Shape(WRITER, "# < countOf l + length r → addEntry l r ≡ ? # l",
+          ["BLOCK_USED_MAX", "ANSWER_NAK"]),
+    Shape(ANSWERS_LENGTH, "= #", ["ANSWERS_LENGTH"]),
+    Shape(REPLAYED, "number = #;", ["ANSWER_DONE"]),
+    Shape(REPLAY, "(? # a o)) (? # a o)",
+          ["ANSWER_NO_SPACE", "ANSWER_OUTSIDE"]),
     Cases(BLOCK_REFUSALS, {"Good": "REFUSED_NOT",
                            "BadLength": "REFUSED_LENGTH",
                            "BadCheck": "REFUSED_CHECK",
@@ -371,7 +367,7 @@ COMPARED = [
                     "CompleteSplit": "RECORD_COMPLETE_SPLIT",
                     "Launch": "RECORD_LAUNCH", "Deliver": "RECORD_DELIVER",
                     "LineEvent": "RECORD_LINE_EVENT", "Tick": "RECORD_TICK",
-                    "BusReset": "RECORD_BUS_RESET"}, ("laid #",)),
+                    "BusReset": "RECORD_BUS_RESET"}, "laid # .."),
 
     # The area.
     Cases(STATES, {"NotConfigured": "STATE_NOT_CONFIGURED",
