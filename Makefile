@@ -20,8 +20,8 @@ check: check-texts
 	rt check
 
 # Without a proof: the expected table of the port is the one that a model of its own writes, from the rules as document 01, corrected by C-12,
-# words them; the claims that docs/PROMISES.md names are those that functions ensure; docs/ARCHITECTURE.svg shows the crates as they are;
-# the constants of the headers are the numbers of the specs.
+# words them; the claims that docs/PROMISES.md names are those that functions ensure; docs/READING.md names every specification
+# with its lines; docs/ARCHITECTURE.svg shows the crates as they are; the constants of the headers are the numbers of the specs.
 check-texts:
 	rt fmt --check
 	python3 tests/port_table.py --self-test

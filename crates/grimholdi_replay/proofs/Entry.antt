@@ -12,7 +12,8 @@ use Rattle.area.specs.declared.Read.{Read}
 use Rattle.area.specs.Read.{readOf}
 use Rattle.replay.specs.declared.Block.{Block}
 use Rattle.replay.specs.Replay.{Played, blockPlayed}
-use Rattle.replay.specs.Code.{isEnough, gives, blockGives, blockWrites}
+use Rattle.replay.specs.Answers.{isEnough}
+use Rattle.replay.specs.Code.{gives, blockGives, blockWrites}
 use Rattle.grimholdi.proofs.Entries.{taken-hub}
 use Rattle.grimholdi_replay.specs.declared.Replayed.{Replayed}
 use Rattle.grimholdi_replay.specs.Entry.{refusalNumber, plainReplayed, ReplayOutcome, refused, carriedOut, blockEntry}

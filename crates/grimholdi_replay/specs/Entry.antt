@@ -11,7 +11,7 @@ use Rattle.area.specs.Read.{readOf}
 use Rattle.recording.specs.declared.Verdict.{Verdict}
 use Rattle.recording.specs.declared.Verdict.the-variants.{Good, BadLength, BadCheck, BadNumber, BadCount, BadRecord}
 use Rattle.replay.specs.Replay.{Played, blockPlayed}
-use Rattle.replay.specs.Code.{isEnough, putFirst}
+use Rattle.replay.specs.Answers.{isEnough, putFirst}
 use Rattle.grimholdi_replay.specs.declared.Replayed.{Replayed}
 
 -- in the order of the tests

@@ -24,7 +24,8 @@ use Rattle.replay.specs.declared.Counts.{Counts}
 use Rattle.replay.specs.declared.Ran.{Ran}
 use Rattle.replay.specs.Answers.{answerBytes}
 use Rattle.replay.specs.Counting.{isCompleteKind, isComplete, talliedBy}
-use Rattle.replay.specs.Code.{tallyIn, putFirst}
+use Rattle.replay.specs.Answers.{putFirst}
+use Rattle.replay.specs.Code.{tallyIn}
 use Rattle.replay.specs.Turn.{AtMost, TurnFits, callThere, Turned}
 
 read-parts : (l : List ℕ) → readOf l .start + readOf l .size ≡ readOf l .length
