@@ -4,7 +4,8 @@
  * The hub has two upstream lanes, 1 to 7 downstream ports and one translator
  * with 2 to 4 buffers for bulk and control split transactions.  The firmware
  * hands over finished events, setup packets and payloads as numbers and bytes.
- * Each call returns one answer.
+ * Each call returns one answer.  This text names answers DONE, DATA, .. for
+ * GRIMHOLDI_ANSWER_DONE, GRIMHOLDI_ANSWER_DATA, ..
  *
  * Beside this header stand four that are all static inline:
  * grimholdi_port.h gives a port's state and speed, grimholdi_setup.h builds
@@ -224,7 +225,7 @@ extern "C" {
 #define GRIMHOLDI_RESET_TICKS       15  /* ticks that end a port reset */
 #define GRIMHOLDI_RESUME_TICKS      22  /* ticks that end a resume */
 
-/* Answers: the field `number`.  DONE, DATA, .. below are short for these. */
+/* Answers: the field `number`. */
 
 #define GRIMHOLDI_ANSWER_DONE       0  /* done (ACK) */
 #define GRIMHOLDI_ANSWER_DATA       1  /* `length` bytes in the reply space */

@@ -108,7 +108,7 @@ HEADER = Part("include/", 11, (1, 5), (
 C_SIDE = (
     Layer(("C interface",), (HEADER,)),
     Layer(("C programs",), (
-        Part("examples/", 12, (2, 2), ("a firmware loop",)),
+        Part("examples/", 12, (2, 2), ("an example firmware,", "in scenes")),
         Part("tools/why", 12, (3, 3), ("tells why a call got",
                                        "its answer")),
         Part("tools/replay", 12, (4, 4), ("replays a recorded",

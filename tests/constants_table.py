@@ -1,6 +1,6 @@
 """What constants.py compares: constants of the headers, without GRIMHOLDI_,
 and where the specs have their numbers: in files that a reader must believe
-(docs/READING.md), but for the length of the answers' space.
+(docs/READING.md).
 """
 
 from typing import NamedTuple
