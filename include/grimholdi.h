@@ -160,11 +160,13 @@
  * Interrupt handlers
  *
  *   A call never waits, allocates nothing, keeps nothing outside the memory
- *   that it is lent, and its work is bounded (docs/SPEED.md counts the
- *   instructions).  So every call may be made in an interrupt handler.  But
- *   two calls with one area must not overlap: where a handler and other code
- *   use one area, mask the interrupt around the other code's calls, or queue
- *   in the handler what happened and make the call outside it.
+ *   that it is lent, and its work is bounded.  It needs at most 3,400 bytes of
+ *   stack on x86-64, grimholdi_replay_block at most 6,800 (docs/SPEED.md has
+ *   the instructions and the stack of each call).  So every call may be made
+ *   in an interrupt handler.  But two calls with one area must not overlap:
+ *   where a handler and other code use one area, mask the interrupt around the
+ *   other code's calls, or queue in the handler what happened and make the
+ *   call outside it.
  *
  * What nothing can check
  *

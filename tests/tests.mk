@@ -12,6 +12,8 @@
 #                        alone, make uninstall; staged too
 #   make test-compilers  the headers and all bytes of each returned struct, in
 #                        C99, C11, C++11 and C++17, gcc and clang, -O0 and -O3
+#   make test-stack      the stack of each call, computed from the library's
+#                        code, measured, and compared with the header
 #   make test-rust-version  the model needs no Rust later than 1.63: by clippy
 #                        and the text, or, with RUST_1_63=FOLDER, built by the
 #                        cargo and rustc there
@@ -74,8 +76,8 @@ MODEL := $(TARGET)/model/release/model
 LINKED := $(TARGET)/linked-library
 
 .PHONY: always lib-stand-in model test-c test-isolation test-model test-why \
-	test-replay test-install test-compilers test-rust-version soak demo \
-	demo-mistakes why replay speed
+	test-replay test-install test-compilers test-stack test-rust-version \
+	soak demo demo-mistakes why replay speed
 
 $(LINKED): always
 	mkdir -p $(@D)
@@ -146,6 +148,10 @@ test-install: $(LIBRARY) $(TARGET)/why $(TARGET)/replay
 test-compilers: $(LIBRARY)
 	LDLIBS="$(LDLIBS)" python3 -B tests/build/compilers.py $(LIBRARY) \
 		$(TARGET)/compilers "$(GCC)" "$(GXX)" "$(CLANG)" "$(CLANGXX)"
+
+test-stack: $(LIBRARY)
+	LDLIBS="$(LDLIBS)" python3 -B tests/build/stack.py $(LIBRARY) \
+		$(TARGET)/stack "$(CC)"
 
 test-rust-version: $(LIBRARY)
 	CARGO="$(CARGO)" python3 -B tests/build/rust_version.py $(LIBRARY) \

@@ -22,7 +22,7 @@ use Rattle.area_check.specs.Read.{lowOf, portsOf, buffersOf, portPart, bufferPa
 use Rattle.area.specs.Read.{refusal, readOf}
 use Rattle.area_check.proofs.Rows.{put-next}
 
--- ---- the ways of `read_area` and what it calls
+-- ---- the paths through `read_area` and what it calls
 
 pub decode-end : (a : List ℕ) (ps : List Port) (bs : List Buffer) (l : LowSide) → l ≡ lowOf (getD a 6 0) (getD a 7 0)
     → ps ≡ portsOf (getD a 0 0) (take (8 + getD a 0 0 * 4 - 8) (drop 8 a))
@@ -54,7 +54,7 @@ module _ (a : List ℕ) (z : Bool) (ez : z ≡ accepts a) where
       ap (λ (x : Hub). record { ok = true; hub = x }) e
       ∙ sym (ap (λ (b : Bool). cond b (record { ok = true; hub = decoded a }) refusal) (sym ez ∙ t))
 
--- ---- the ways of `write_area`
+-- ---- the paths through `write_area`
 
 -- no more than there is can be taken
 pub take-min : {A : Type 0} (n k : ℕ) (l : List A) → length l ≡ k → take (min n k) l ≡ take n l

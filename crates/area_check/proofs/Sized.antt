@@ -69,7 +69,7 @@ pub taken-sized : (a : List ℕ) → accepts a ≡ true → Sized a
 unfolding accepts
 taken-sized a e = sized-to a (and-eq-true-iff (sized a) (rowsFit a) .0 e .0)
 
--- ---- the ways of `rows_fit`
+-- ---- the paths through `rows_fit`
 
 module _ (a : List ℕ) where
   abbrev portTests : List ℕ → Bool

@@ -1,4 +1,4 @@
--- The ways of the code that reads a record, over plain values. Assumes nothing.
+-- The paths through the code that reads a record, over plain values. Assumes nothing.
 use Prim.Native.Nat.{ℕ, zero, suc, _+_, _*_, _<_, _≤_}
 use native.Mathlib.Omega.{arith}
 use native.Mathlib.Nat.{not-suc-le-zero, le-of-suc-le-suc}

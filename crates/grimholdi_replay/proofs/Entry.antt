@@ -1,4 +1,4 @@
--- The ways of the entry, over plain values. Assumes nothing.
+-- The paths through the entry, over plain values. Assumes nothing.
 use Prim.Native.Nat.{ℕ, _<_, _^_}
 use native.Mathlib.Omega.{arith}
 use mathlib.Core.Path.{_≡_, refl, sym, _∙_, ap}

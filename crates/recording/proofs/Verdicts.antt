@@ -1,4 +1,4 @@
--- The ways of the code that checks a block, over plain values. Assumes nothing.
+-- The paths through the code that checks a block, over plain values. Assumes nothing.
 use Prim.Native.Nat.{ℕ, _+_, _-_, _%_, _<_, _≤_}
 use native.Mathlib.Omega.{arith}
 use mathlib.Core.Path.{_≡_, sym, _∙_, ap}
