@@ -271,16 +271,16 @@ COMPARED = [
                                   "HUB_DESCRIPTOR"]),
         "GetHubStatus": Said("s ≡ fields # # 0 0 4",
                              ["TYPE_GET_HUB", "REQUEST_GET_STATUS"]),
-        "GetPortStatus": Said("PortOf n p × (s ≡ fields # # 0 (p .0) 4)",
+        "GetPortStatus": Said("Among n p × (s ≡ fields # # 0 (p .0) 4)",
                               ["TYPE_GET_PORT", "REQUEST_GET_STATUS"]),
         "ClearHubFeature": Said("(s ≡ fields # # # 0 0) "
                                 "⊎ (s ≡ fields # # # 0 0)",
                                 CLEAR_HUB + ["C_HUB_LOCAL_POWER"]
                                 + CLEAR_HUB + ["C_HUB_OVER_CURRENT"]),
-        "ClearPortFeature": Said("PortOf n p × (s ≡ fields # # "
+        "ClearPortFeature": Said("Among n p × (s ≡ fields # # "
                                  "(clearableNumber f) (p .0) 0)",
                                  [SET_PORT, "REQUEST_CLEAR_FEATURE"]),
-        "SetPortFeature": Said("PortOf n p × (s ≡ fields # # "
+        "SetPortFeature": Said("Among n p × (s ≡ fields # # "
                                "(settableNumber f) (p .0) 0)",
                                [SET_PORT, "REQUEST_SET_FEATURE"]),
         "ClearTTBuffer": Said("PipeInRange k × "

@@ -20,8 +20,7 @@ use Rattle.translator.specs.declared.LowSide.{LowSide}
 use Rattle.translator.specs.declared.LowSide.the-variants.{Idle, Running, Abandoned}
 use Rattle.translator.specs.Slots.{slotsIn}
 use Rattle.translator.specs.Translator.{at}
-use Rattle.translator.specs.Valid.{atPlace}
-use Rattle.translator.specs.Valid.{Apart, RunsPending}
+use Rattle.translator.specs.Valid.{atPlace, Apart, RunsPending}
 use Rattle.translator.proofs.At.{inside}
 use Rattle.area.specs.Written.{lowByte, runningByte}
 use Rattle.area_check.specs.Read.{lowOf, clash, clashAny, clashing, runs, lowFits}

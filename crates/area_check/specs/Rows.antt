@@ -1,6 +1,6 @@
 -- Internal, pinned by `AreaExact` (crate `area`): rows, which are elements that each take the same number of bytes, as reading takes them apart.
 use Prim.Native.Nat.{ℕ, zero, suc}
-use mathlib.Core.List.{List, [], _∷_, _++_}
+use mathlib.Core.List.{List, [], _∷_}
 use mathlib.Core.Bool.{Bool, true, _&&_}
 use lib.ListN.{take, drop}
 use lib.Dec.{eqb}

@@ -8,7 +8,6 @@ use Rattle.buffer.specs.declared.Standing.the-variants.{Busy, Free, Hold
 use Rattle.buffer.specs.Same.{sameKey}
 use Rattle.buffer.specs.Key.{keyOf}
 
--- how it stands to the key k, for a search that looks at it once
 abbrev pub standing : Key → Slot → Standing
 standing k Empty = Free
 standing k (Pending s p) = cond (sameKey (keyOf s) k) Holds Busy

@@ -14,5 +14,6 @@ pub record EntryOutcome : Type 0 where
   pub area : List ℕ
   pub reply : List ℕ
 
+-- 6, and nothing changes
 abbrev pub refused : List ℕ → List ℕ → EntryOutcome
 refused a r = record { answer = plainStruct 6; area = a; reply = r }

@@ -23,8 +23,7 @@ use Rattle.recording.specs.Written.{IsBlock}
 use Rattle.recording.specs.Refusals.{Told}
 use Rattle.recording.proofs.Blocks.{block-exact}
 use Rattle.recording.proofs.Refusals.{block-refusals}
-use Rattle.replay.specs.Answers.{answersIn}
-use Rattle.replay.specs.Answers.{answersLength, isEnough}
+use Rattle.replay.specs.Answers.{answersIn, answersLength, isEnough}
 use Rattle.replay.specs.Replay.{Recording, Stop, Replayed, Played, andThen, replayFrom, seenAs, ReplayExact, playedCalls, playedNone, blockPlayed, byValue, blocksOf, AllWritable, joined}
 use Rattle.replay.proofs.Replays.{sums, replay-claims}
 use Rattle.grimholdi.specs.Asked.{Asked, callOf}

@@ -19,8 +19,7 @@ use Rattle.recording.specs.declared.Verdict.{Verdict}
 use Rattle.recording.specs.declared.Verdict.the-variants.{Good, BadLength, BadCheck, BadNumber, BadCount, BadRecord}
 use Rattle.recording.specs.Written.{IsBlock}
 use Rattle.recording.specs.Refusals.{Told}
-use Rattle.replay.specs.Answers.{answersIn}
-use Rattle.replay.specs.Answers.{answersLength}
+use Rattle.replay.specs.Answers.{answersIn, answersLength}
 use Rattle.replay.specs.Replay.{Player, replayFrom, ReplayExact, ReplayAddsUp, playedCalls, playedNone, blocksOf, AllWritable, joined}
 use Rattle.grimholdi.specs.Asked.{Asked, callOf}
 use Rattle.grimholdi.specs.Runs.{NewArea, filled, entries}

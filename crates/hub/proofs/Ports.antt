@@ -25,12 +25,11 @@ use Rattle.port.specs.Events.{attach, detach, chirp, wake, portError, overCurre
 use Rattle.port.specs.Tick as ticking
 use Rattle.port.specs.Features.{setPower, setReset, setSuspend, clearEnable, clearSuspend, setRule}
 use Rattle.port.specs.Input.{Input, event, tick, setFeature, clearFeature, configure, unconfigure, busReset, after}
-use Rattle.port.specs.Words.{TimerBelowEnd}
+use Rattle.port.specs.Words.{TimerBelowEnd, Among}
 use Rattle.port.proofs.States.{by-state, row, each, next, next-state}
 use Rattle.ports.specs.declared.Sweep.{Sweep}
 use Rattle.ports.specs.Ports.{newPorts, portAt, withPort}
 use Rattle.ports.specs.Sweep.{sweptBy, swept}
-use Rattle.ports.specs.Ports.{Among}
 use Rattle.ports.proofs.Front.{drop-front, getD-front}
 use Rattle.ports.proofs.Laws.{at-port, set-port, ports-claims}
 use Rattle.hub.specs.Valid.{isNotConfigured}

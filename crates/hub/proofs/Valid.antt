@@ -15,7 +15,7 @@ use Rattle.ports.specs.declared.Sweep.the-variants as sweep
 use Rattle.ports.specs.Ports.{newPorts, portAt}
 use Rattle.ports.specs.Sweep.{swept}
 use Rattle.ports.specs.Bitmap.{bitmapOf}
-use Rattle.ports.specs.Ports.{Among}
+use Rattle.port.specs.Words.{Among}
 use Rattle.buffer.specs.declared.Lane.{Lane}
 use Rattle.translator.specs.declared.Translator.{Translator}
 use Rattle.translator.specs.declared.CompleteAnswer.{CompleteAnswer}

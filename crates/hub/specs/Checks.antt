@@ -44,7 +44,7 @@ hasSpace (Event e n) = true
 hasSpace Tick = true
 hasSpace BusReset = true
 
--- notSilent, else 5 silent, hub unconfigured. On an unconfigured hub poll, launch, deliver and both splits answer 5; control requests never
+-- not silent, else 5 silent, hub unconfigured. On an unconfigured hub poll, launch, deliver and both splits answer 5; control requests never
 -- do.
 unfoldable pub notSilent : Hub → Call → Bool
 notSilent h (Control z s room) = true

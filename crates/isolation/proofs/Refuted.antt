@@ -17,11 +17,10 @@ use Rattle.ports.specs.Sweep.{front, swept}
 use Rattle.buffer.specs.Same.{sameKey}
 use Rattle.buffer.specs.Lengths.{numbersFit, startFits}
 use Rattle.translator.specs.declared.Translator.{Translator}
-use Rattle.translator.specs.Order.{pass}
+use Rattle.translator.specs.Order.{pass, waiting, ranked}
 use Rattle.translator.specs.Search.{find, chosen}
 use Rattle.translator.specs.Limit.{permitted}
 use Rattle.translator.specs.Translator.{tally}
-use Rattle.translator.specs.Order.{waiting, ranked}
 use Rattle.translator.specs.StartSplit.{stored, startSplit}
 use Rattle.numbers.specs.Split.{splitNamed, splitFrom}
 use Rattle.request.specs.Table.{kindOf}

@@ -1,5 +1,5 @@
 -- One port in document 01's words, for claims and validity: by its state, not by the rules. A reader must believe: each says its comment.
-use Prim.Native.Nat.{ℕ, zero, suc, _<_, _%_, _/_}
+use Prim.Native.Nat.{ℕ, zero, suc, _<_, _≤_, _%_, _/_}
 use mathlib.Core.Path.{_≡_}
 use mathlib.Core.Bool.{Bool}
 use mathlib.Core.List.{List, [], _∷_}
@@ -12,8 +12,13 @@ use Rattle.port.specs.declared.PortState.the-variants.{NotConfigured, Po
 use Rattle.port.specs.declared.ChangeBit.{ChangeBit}
 use Rattle.port.specs.declared.ChangeBit.the-variants.{Connection, Enable, Suspend, OverCurrent, Reset}
 use Rattle.port.specs.declared.Changes.{Changes}
+use Rattle.port.specs.declared.PortNumber.{PortNumber}
 use Rattle.port.specs.declared.LineEvent.{LineEvent}
 use Rattle.port.specs.declared.LineEvent.the-variants.{AttachLow, AttachFull, Detach, Chirp, Wake, PortError, OverCurrentOn, OverCurrentOff}
+
+-- port m is one of the first n: N ports .. numbered from 1
+abbrev pub Among : ℕ → PortNumber → Type 0
+Among n m = (1 ≤ m .0) × (m .0 ≤ n)
 
 -- has timers below their ends: 15 ticks in Resetting, 22 in Resuming
 abbrev pub TimerBelowEnd : PortState → Type 0

@@ -2,7 +2,6 @@
 ghost use mathlib.Core.Path.{_≡_};
 ghost use mathlib.Core.Bool.{false};
 ghost use mathlib.Core.List.{[], _∷_};
-ghost use Prim.Native.Nat.{_≤_};
 ghost use Rattle.port.specs.Method.{answered};
 ghost use Rattle.port.specs.Reaction.{newPort, doneWith, ruled};
 ghost use Rattle.port.specs.Events.{

@@ -13,13 +13,12 @@ use Rattle.port.specs.declared.PortNumber.{PortNumber}
 use Rattle.port.specs.Reaction.{newPort}
 use Rattle.bools.specs.Bit.{bit}
 use Rattle.port.specs.Status.{byteOf, hasChange}
-use Rattle.port.specs.Words.{bitsOf}
+use Rattle.port.specs.Words.{bitsOf, Among}
 use Rattle.port.proofs.Bits.{bits-back}
 use Rattle.ports.specs.declared.Sweep.{Sweep}
 use Rattle.ports.specs.Ports.{newPorts, oneToSeven, portAt, withPort}
 use Rattle.ports.specs.Sweep.{sweptBy, swept}
 use Rattle.ports.specs.Bitmap.{portBit, bitmapBits, bitmapOf}
-use Rattle.ports.specs.Ports.{Among}
 use Rattle.ports.specs.Claims.{PortsClaims}
 use Rattle.ports.proofs.Front.{drop-front, length-front, getD-front}
 

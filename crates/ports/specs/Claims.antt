@@ -10,9 +10,9 @@ use Rattle.port.specs.declared.Port.{Port}
 use Rattle.port.specs.declared.PortNumber.{PortNumber}
 use Rattle.port.specs.Reaction.{newPort}
 use Rattle.port.specs.Status.{hasChange}
-use Rattle.port.specs.Words.{bitsOf}
+use Rattle.port.specs.Words.{Among, bitsOf}
 use Rattle.ports.specs.declared.Sweep.{Sweep}
-use Rattle.ports.specs.Ports.{Among, newPorts, portAt, withPort}
+use Rattle.ports.specs.Ports.{newPorts, portAt, withPort}
 use Rattle.ports.specs.Sweep.{sweptBy, swept}
 use Rattle.ports.specs.Bitmap.{portBit, bitmapOf}
 

@@ -1,6 +1,6 @@
 -- The hub's ports as a list of seven.
 -- Believe: port n is element n - 1, since ports are numbered from 1; the hub has N ports, 1 to 7, and they are the first N.
-use Prim.Native.Nat.{ℕ, _-_, _≤_}
+use Prim.Native.Nat.{ℕ, _-_}
 use mathlib.Core.Bool.{Bool, cond, _&&_}
 use mathlib.Core.List.{List}
 use lib.ListN.{getD, set, replicate}
@@ -24,7 +24,3 @@ portAt ps n = cond (oneToSeven (n .0)) (getD ps (n .0 - 1) newPort) newPort
 -- the ports with port n anew; a number outside 1 to 7 changes nothing
 unfoldable pub withPort : List Port → PortNumber → Port → List Port
 withPort ps n p = cond (oneToSeven (n .0)) (set ps (n .0 - 1) p) ps
-
--- port m is one of the first n
-abbrev pub Among : ℕ → PortNumber → Type 0
-Among n m = (1 ≤ m .0) × (m .0 ≤ n)

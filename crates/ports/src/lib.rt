@@ -114,11 +114,7 @@ pub fn bitmap(ports: [Port; 7], count: PortCount) -> u8
 fn flag(port: Port, n: PortNumber, count: PortCount) -> u8
     ensures { λ r. ⌜ (r ≡ bit (leb (n .0) (count .0) && hasChange (port .changes))) × (r ≤ 1) ⌝ }
 {
-    if bools::both(n.0 <= count.0 as u32, port.changed()) {
-        1
-    } else {
-        0
-    }
+    bools::bit_of(bools::both(n.0 <= count.0 as u32, port.changed()))
 }
 
 // What holds of the ports' rules; the function does nothing.

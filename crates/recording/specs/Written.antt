@@ -24,6 +24,7 @@ unfoldable pub sumTo : List ℕ → ℕ → ℕ
 sumTo l zero = 0
 sumTo l (suc n) = sumTo l n + halfAt l (2 * n)
 
+-- how many bytes are used
 abbrev pub countOf : List ℕ → ℕ
 countOf l = halfAt l 2
 

@@ -8,11 +8,10 @@ use borrow.Author.Tests.{eq-eqb, le-leb}
 use lib.ListN.{length}
 use Rattle.buffer.specs.Same.{sameKey}
 use Rattle.buffer.specs.Lengths.{numbersFit, startFits}
-use Rattle.translator.specs.Order.{pass}
+use Rattle.translator.specs.Order.{pass, ranked}
 use Rattle.translator.specs.Search.{find, chosen}
 use Rattle.translator.specs.Limit.{permitted}
 use Rattle.translator.specs.Translator.{tally}
-use Rattle.translator.specs.Order.{ranked}
 use Rattle.translator.specs.StartSplit.{stored, startSplit}
 use Rattle.numbers.specs.Split.{splitNamed, splitFrom, keyNamed, keyFrom}
 use Rattle.request.specs.Table.{kindOf}

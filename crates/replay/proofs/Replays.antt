@@ -19,9 +19,7 @@ use Rattle.recording.specs.Written.{IsBlock}
 use Rattle.recording.proofs.Blocks.{block-is-good, block-exact}
 use Rattle.replay.specs.Answers.{answerBytes, answersIn}
 use Rattle.replay.specs.Counting.{noTally, plus, isComplete, talliedBy, tallied}
-use Rattle.replay.specs.Replay.{Recording, callsFrom, stopFrom, Stop, Replayed, replayOf, Played, andThen}
-use Rattle.replay.specs.Replay.{Player, replayFrom, ReplayExact, ReplayAddsUp, playedNone, blockPlayed, byValue, ReplayClaims}
-use Rattle.replay.specs.Replay.{blocksOf, AllWritable, joined, RecordedReplays}
+use Rattle.replay.specs.Replay.{Recording, callsFrom, stopFrom, Stop, Replayed, replayOf, Played, andThen, Player, replayFrom, ReplayExact, ReplayAddsUp, playedNone, blockPlayed, byValue, ReplayClaims, blocksOf, AllWritable, joined, RecordedReplays}
 use Rattle.replay.proofs.Tallying.{tally-is, counted}
 
 -- ---- calls behind calls

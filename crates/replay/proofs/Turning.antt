@@ -22,9 +22,8 @@ use Rattle.recording.specs.Calls.{callsOf, isSome}
 use Rattle.recording.proofs.Rows.{calls-unknown, tail-is}
 use Rattle.replay.specs.declared.Counts.{Counts}
 use Rattle.replay.specs.declared.Ran.{Ran}
-use Rattle.replay.specs.Answers.{answerBytes}
+use Rattle.replay.specs.Answers.{answerBytes, putFirst}
 use Rattle.replay.specs.Counting.{isCompleteKind, isComplete, talliedBy}
-use Rattle.replay.specs.Answers.{putFirst}
 use Rattle.replay.specs.Code.{tallyIn}
 use Rattle.replay.specs.Turn.{AtMost, TurnFits, callThere, Turned}
 

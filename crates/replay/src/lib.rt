@@ -3,14 +3,12 @@ ghost use mathlib.Core.Path.{_≡_};
 ghost use Prim.Native.Nat.{_+_, _≤_, _<_, _^_};
 ghost use lib.ListN.{length};
 ghost use Rattle.buffer.specs.Buffer.{isActive};
-ghost use Rattle.bools.specs.Bit.{bit};
 ghost use Rattle.hub.specs.Method.{outcomeOf};
 ghost use Rattle.hub.specs.Step.{step};
 ghost use Rattle.runs.specs.Tally.{activeBuffers};
 ghost use Rattle.call_bytes.specs.Table.{callOf};
-ghost use Rattle.replay.specs.Answers.{answerBytes};
+ghost use Rattle.replay.specs.Answers.{answerBytes, putFirst};
 ghost use Rattle.replay.specs.Counting.{noTally, isCompleteKind, talliedBy, Counted};
-ghost use Rattle.replay.specs.Answers.{putFirst};
 ghost use Rattle.replay.specs.Code.{tallyIn, gives, blockGives, blockWrites};
 ghost use Rattle.replay.specs.Turn.{TurnFits, Turned, RunFits, RanAll};
 ghost use Rattle.replay.specs.Replay.{playedNone, ReplayClaims};
@@ -81,19 +79,13 @@ fn is_active(slot: Slot) -> bool
     }
 }
 
-fn how_many(a: bool, b: bool, c: bool, d: bool) -> u8
-    ensures { λ r. ⌜ (r ≡ bit a + (bit b + (bit c + bit d))) × (r ≤ 4) ⌝ }
-{
-    bools::bit_of(a) + (bools::bit_of(b) + (bools::bit_of(c) + bools::bit_of(d)))
-}
-
 // How many buffers are pending or ready.
 pub fn active(hub: Hub) -> u8
     ensures { λ r. ⌜ (r ≡ activeBuffers hub) × (r ≤ 4) ⌝ }
 {
     let translator = hub.translator;
     let slots = translator.slots();
-    how_many(
+    bools::how_many(
         is_active(slots[0]),
         is_active(slots[1]),
         is_active(slots[2]),

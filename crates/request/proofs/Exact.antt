@@ -18,7 +18,8 @@ use Rattle.request.specs.Values.{pipeIn}
 use Rattle.request.specs.Table.{kindOf, isKnown, valueFits, isPort, indexFits, lengthFits}
 use Rattle.port.specs.declared.PortNumber.{PortNumber}
 use Rattle.request.specs.Request.{portIn, meaning, checked}
-use Rattle.request.specs.Fields.{PortOf, PipeInRange, fields, AsksFor}
+use Rattle.port.specs.Words.{Among}
+use Rattle.request.specs.Fields.{PipeInRange, fields, AsksFor}
 use Rattle.request.specs.Ranges.{InRange}
 use Rattle.request.proofs.Written.{by-cond, and-left, and-right, one-back, settable-back, settable-fits, settable-read, clearable-back, clearable-fits, clearable-read, pipe-back, pipe-fits, pipe-read}
 
@@ -70,7 +71,7 @@ checks P n k v i l w m =
 same : {t c v i l t′ c′ v′ i′ l′ : ℕ} → (t ≡ t′) × (c ≡ c′) → v ≡ v′ → i ≡ i′ → l ≡ l′ → fields t c v i l ≡ fields t′ c′ v′ i′ l′
 same w x y z = rw (w .0, w .1, x, y, z)
 
-port-of : (n i : ℕ) → isPort n i ≡ true → PortOf n (portIn i)
+port-of : (n i : ℕ) → isPort n i ≡ true → Among n (portIn i)
 port-of n i y = (leb-true 1 i (and-left (leb 1 i) (leb i n) y), leb-true i n (and-right (leb 1 i) (leb i n) y))
 
 zero-or-one : (v : ℕ) → v ≤ 1 → (v ≡ 0) ⊎ (v ≡ 1)
@@ -103,7 +104,7 @@ asks n t c v i l ResetTT h w x y z = same w (eqb-true v 0 x) (eqb-true i 1 y) (e
 abbrev asked : ℕ → Setup → Request
 asked n s = checked n (kindOf (s .requesttype) (s .code)) (s .value) (s .index) (s .length)
 
-at-port : (n : ℕ) (p : PortNumber) → PortOf n p → isPort n (p .0) ≡ true
+at-port : (n : ℕ) (p : PortNumber) → Among n p → isPort n (p .0) ≡ true
 at-port n p h = rw (le-leb 1 (p .0) (h .0), le-leb (p .0) n (h .1))
 
 pub reads : (n : ℕ) (s : Setup) (r : Request) → ((f : Fault) → ¬ (r ≡ request.Wrong f)) → AsksFor n s r → asked n s ≡ r

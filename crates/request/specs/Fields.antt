@@ -1,15 +1,15 @@
 -- Document 01's table of requests, read from the request to its fields: one row for each request. A reader must believe: these are its rows.
-use Prim.Native.Nat.{ℕ, _+_, _*_, _<_, _≤_}
+use Prim.Native.Nat.{ℕ, _+_, _*_, _<_}
 use mathlib.Core.Path.{_≡_}
 use mathlib.Core.Bool.{cond}
 use mathlib.Core.Logic.{_⊎_}
-use Rattle.port.specs.declared.PortNumber.{PortNumber}
 use Rattle.port.specs.declared.ChangeBit.{ChangeBit}
 use Rattle.port.specs.declared.ChangeBit.the-variants as change
 use Rattle.port.specs.declared.ClearableFeature.{ClearableFeature}
 use Rattle.port.specs.declared.ClearableFeature.the-variants as clearable
 use Rattle.port.specs.declared.SettableFeature.{SettableFeature}
 use Rattle.port.specs.declared.SettableFeature.the-variants as settable
+use Rattle.port.specs.Words.{Among}
 use Rattle.buffer.specs.declared.Direction.{Direction}
 use Rattle.buffer.specs.declared.Direction.the-variants as direction
 use Rattle.request.specs.declared.Pipe.{Pipe}
@@ -47,10 +47,6 @@ directionBit direction.In = 1
 abbrev pub pipeValue : ℕ → Pipe → ℕ
 pipeValue t k = k .endpoint + 16 * (k .address .0) + 2048 * t + 32768 * directionBit (k .direction)
 
--- N ports .. numbered from 1
-abbrev pub PortOf : ℕ → PortNumber → Type 0
-PortOf n p = (1 ≤ p .0) × (p .0 ≤ n)
-
 -- device address 0 to 127; endpoint 0 to 15
 abbrev pub PipeInRange : Pipe → Type 0
 PipeInRange k = (k .address .0 < 128) × (k .endpoint < 16)
@@ -59,16 +55,16 @@ PipeInRange k = (k .address .0 < 128) × (k .endpoint < 16)
 abbrev pub fields : ℕ → ℕ → ℕ → ℕ → ℕ → Setup
 fields t c v i l = record { requesttype = t; code = c; value = v; index = i; length = l }
 
--- these fields ask for this request, on a hub with n ports
+-- these fields ask for this request, on a hub with n ports. A wrong one has no row; the claims leave it out.
 abbrev pub AsksFor : ℕ → Setup → Request → Type 0
 AsksFor n s (Wrong f) = Unit {0}
 AsksFor n s (SetConfiguration one) = s ≡ fields 0x00 0x09 (cond one 1 0) 0 0
 AsksFor n s GetConfiguration = s ≡ fields 0x80 0x08 0 0 1
 AsksFor n s (GetHubDescriptor l) = s ≡ fields 0xA0 0x06 0x2900 0 l
 AsksFor n s GetHubStatus = s ≡ fields 0xA0 0x00 0 0 4
-AsksFor n s (GetPortStatus p) = PortOf n p × (s ≡ fields 0xA3 0x00 0 (p .0) 4)
+AsksFor n s (GetPortStatus p) = Among n p × (s ≡ fields 0xA3 0x00 0 (p .0) 4)
 AsksFor n s ClearHubFeature = (s ≡ fields 0x20 0x01 0 0 0) ⊎ (s ≡ fields 0x20 0x01 1 0 0)
-AsksFor n s (ClearPortFeature p f) = PortOf n p × (s ≡ fields 0x23 0x01 (clearableNumber f) (p .0) 0)
-AsksFor n s (SetPortFeature p f) = PortOf n p × (s ≡ fields 0x23 0x03 (settableNumber f) (p .0) 0)
+AsksFor n s (ClearPortFeature p f) = Among n p × (s ≡ fields 0x23 0x01 (clearableNumber f) (p .0) 0)
+AsksFor n s (SetPortFeature p f) = Among n p × (s ≡ fields 0x23 0x03 (settableNumber f) (p .0) 0)
 AsksFor n s (ClearTTBuffer k) = PipeInRange k × ((s ≡ fields 0x23 0x08 (pipeValue 0 k) 1 0) ⊎ (s ≡ fields 0x23 0x08 (pipeValue 2 k) 1 0))
 AsksFor n s ResetTT = s ≡ fields 0x23 0x09 0 1 0

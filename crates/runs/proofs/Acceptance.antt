@@ -26,11 +26,10 @@ use Rattle.buffer.specs.Buffer.{vacant, isPending, isFree, holds, inLane}
 use Rattle.buffer.proofs.Keys.{same-true, same-refl}
 use Rattle.translator.specs.declared.LowSide.{LowSide}
 use Rattle.translator.specs.Translator.{at}
-use Rattle.translator.specs.Valid.{atPlace}
+use Rattle.translator.specs.Valid.{atPlace, Apart}
 use Rattle.translator.specs.Order.{waiting, before, reranked, rankedIn, ranked}
 use Rattle.translator.specs.Answers.{laneNumber, pidNumber}
 use Rattle.translator.specs.ResetLane.{withoutLane}
-use Rattle.translator.specs.Valid.{Apart}
 use Rattle.translator.proofs.At.{at-same, at-other, at-cases, at-ranked, pending-reranked}
 use Rattle.translator.proofs.Ranks.{rank-lt, rank-below}
 use Rattle.numbers.proofs.Laws.{numbers-claims}

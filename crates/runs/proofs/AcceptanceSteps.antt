@@ -394,16 +394,16 @@ split-call z p t f g a e l named =
     rw (s .lane-number, s .pid-number, s .type-number, s .low-speed-flag, s .toggle-flag, s .address-number, s .endpoint-number)
 
 module _ (h : History) (hub : Hub) (tied : Tied h (hub .translator)) (queue : Queue h (hub .translator .buffers)) where
-  abbrev LineBy : Call → Outcome → Type 0
-  LineBy c o = Queued h c (o .next .translator .buffers) (o .answer)
+  abbrev QueuedBy : Call → Outcome → Type 0
+  QueuedBy c o = Queued h c (o .next .translator .buffers) (o .answer)
 
-  refusal : (c : Call) (n : ℕ) → Refused (plainAnswer n) → eqb n 3 ≡ false → LineBy c (refuse n hub)
+  refusal : (c : Call) (n : ℕ) → Refused (plainAnswer n) → eqb n 3 ≡ false → QueuedBy c (refuse n hub)
   refusal c n r three = (refused-queue h (hub .translator) tied queue c (plainAnswer n) r, ordered-else h (asks c) (plainAnswer n) (r .not-1) three)
 
   none-of : (n : ℕ) → eqb n 0 ≡ false → eqb n 1 ≡ false → eqb n 9 ≡ false → Refused (plainAnswer n)
   none-of n a b c = record { not-0 = a; not-1 = b; not-9 = c }
 
-  by-request : (c : Call) (y : Lane) (r : Request) → AsksFor y r (asks c) → LineBy c (byRequest hub y r)
+  by-request : (c : Call) (y : Lane) (r : Request) → AsksFor y r (asks c) → QueuedBy c (byRequest hub y r)
   unfolding configuredAs
   by-request c y (Wrong f) q = refusal c 2 (none-of 2 refl refl refl) refl
   by-request c y (SetConfiguration on) q = empty-queue h (hub .translator) tied queue c q
@@ -417,34 +417,34 @@ module _ (h : History) (hub : Hub) (tied : Tied h (hub .translator)) (queue : Qu
   by-request c y (ClearTTBuffer k) q = clear-queue h (hub .translator) tied queue c (keyed y k) q
   by-request c y ResetTT q = reset-queue h (hub .translator) tied queue c y q
 
-  control : (z : ℕ) (s : List ℕ) (room : ℕ) → LineBy (Control z s room) (requested hub (laneFrom z) (requestOf (hub .identity .ports) s))
+  control : (z : ℕ) (s : List ℕ) (room : ℕ) → QueuedBy (Control z s room) (requested hub (laneFrom z) (requestOf (hub .identity .ports) s))
   unfolding requested
   control z s room = go (hub .configured || servedAlways r)
     where
       r : Request
       r = requestOf (hub .identity .ports) s
 
-      go : (x : Bool) → LineBy (Control z s room) (cond x (byRequest hub (laneFrom z) r) (refuse 2 hub))
+      go : (x : Bool) → QueuedBy (Control z s room) (cond x (byRequest hub (laneFrom z) r) (refuse 2 hub))
       go true = by-request (Control z s room) (laneFrom z) r (request-asks (hub .identity .ports) z s room)
       go false = refusal (Control z s room) 2 (none-of 2 refl refl refl) refl
 
-  poll : (z room : ℕ) → LineBy (Poll z room) (polled hub)
+  poll : (z room : ℕ) → QueuedBy (Poll z room) (polled hub)
   unfolding polled asks
   poll z room = go (eqb (bitmapOf (hub .identity .ports) (hub .ports)) 0)
     where
-      go : (x : Bool) → LineBy (Poll z room) (cond x (refuse 3 hub) (gives hub (bitmapOf (hub .identity .ports) (hub .ports) ∷ [])))
+      go : (x : Bool) → QueuedBy (Poll z room) (cond x (refuse 3 hub) (gives hub (bitmapOf (hub .identity .ports) (hub .ports) ∷ [])))
       go true = nothing-queue h (hub .translator) tied queue (Poll z room) _ refl
       go false = nothing-queue h (hub .translator) tied queue (Poll z room) _ refl
 
-  tick : LineBy Tick (done (tickedHub hub))
+  tick : QueuedBy Tick (done (tickedHub hub))
   unfolding tickedHub asks
   tick = go (hub .configured)
     where
-      go : (x : Bool) → LineBy Tick (done (cond x (withPorts hub (swept Tick′ (hub .identity .ports) (hub .ports))) hub))
+      go : (x : Bool) → QueuedBy Tick (done (cond x (withPorts hub (swept Tick′ (hub .identity .ports) (hub .ports))) hub))
       go true = nothing-queue h (hub .translator) tied queue Tick _ refl
       go false = nothing-queue h (hub .translator) tied queue Tick _ refl
 
-  serve : (c : Call) → within hub c ≡ true → LineBy c (served hub c)
+  serve : (c : Call) → within hub c ≡ true → QueuedBy c (served hub c)
   unfolding served within asks resetHub
   serve (Control z s room) w = control z s room
   serve (Poll z room) w = poll z room
@@ -466,9 +466,9 @@ module _ (h : History) (hub : Hub) (tied : Tied h (hub .translator)) (queue : Qu
   serve Tick w = tick
   serve BusReset w = empty-queue h (hub .translator) tied queue BusReset refl
 
-  pub step-queue : (c : Call) → LineBy c (step hub c)
+  pub step-queue : (c : Call) → QueuedBy c (step hub c)
   step-queue c =
-      by-checks hub c (LineBy c) (refusal c 6 (none-of 6 refl refl refl) refl) (refusal c 7 (none-of 7 refl refl refl) refl)
+      by-checks hub c (QueuedBy c) (refusal c 6 (none-of 6 refl refl refl) refl) (refusal c 7 (none-of 7 refl refl refl) refl)
       (refusal c 5 (none-of 5 refl refl refl) refl) (refusal c 8 (none-of 8 refl refl refl) refl) (λ w f. serve c w)
 
 -- ---- whole runs

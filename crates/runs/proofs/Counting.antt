@@ -11,9 +11,8 @@ use lib.Dec.{eqb}
 use Rattle.buffer.specs.declared.Slot.{Slot}
 use Rattle.buffer.specs.declared.Slot.the-variants.{Empty}
 use Rattle.buffer.specs.declared.Buffer.{Buffer}
-use Rattle.translator.specs.Translator.{at}
+use Rattle.translator.specs.Translator.{at, tally}
 use Rattle.bools.specs.Bit.{bit}
-use Rattle.translator.specs.Translator.{tally}
 use Rattle.runs.specs.Tally.{countTo}
 
 pub count-same : (f g : ℕ → Bool) (n : ℕ) → ((s : ℕ) → s < n → f s ≡ g s) → countTo f n ≡ countTo g n

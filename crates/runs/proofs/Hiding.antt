@@ -35,14 +35,12 @@ use Rattle.translator.specs.declared.Started.{Started}
 use Rattle.translator.specs.declared.Completed.{Completed}
 use Rattle.translator.specs.declared.Launched.{Launched}
 use Rattle.translator.specs.declared.Delivered.{Delivered}
-use Rattle.translator.specs.Translator.{at}
-use Rattle.translator.specs.Order.{pass}
+use Rattle.translator.specs.Translator.{at, tally}
+use Rattle.translator.specs.Order.{pass, isBefore, waiting, reranked, rankedIn, ranked, sooner, earliest}
 use Rattle.translator.specs.Search.{later, find, chooseHeld, chosen}
 use Rattle.translator.specs.Limit.{permitted}
 use Rattle.translator.specs.ResetLane.{withoutLane, lowWithoutLane, resetLane}
 use Rattle.bools.specs.Bit.{bit}
-use Rattle.translator.specs.Translator.{tally}
-use Rattle.translator.specs.Order.{isBefore, waiting, reranked, rankedIn, ranked, sooner, earliest}
 use Rattle.translator.specs.StartSplit.{stored, startBy, startSplit}
 use Rattle.translator.specs.CompleteSplit.{given, completed, completeAt, completeSplit}
 use Rattle.translator.specs.Launch.{launched, launchAt, launchBy, launch}

@@ -14,11 +14,10 @@ use Rattle.buffer.specs.declared.Direction.the-variants as direction
 use Rattle.buffer.specs.Same.{sameKey}
 use Rattle.buffer.specs.Lengths.{numbersFit, startFits, resultLength}
 use Rattle.ports.specs.Sweep.{front, swept}
-use Rattle.translator.specs.Order.{pass}
+use Rattle.translator.specs.Order.{pass, ranked, earliest}
 use Rattle.translator.specs.Search.{find, chosen}
 use Rattle.translator.specs.Limit.{permitted}
 use Rattle.translator.specs.Translator.{tally}
-use Rattle.translator.specs.Order.{ranked, earliest}
 use Rattle.translator.specs.StartSplit.{stored, startSplit}
 use Rattle.translator.specs.CompleteSplit.{completeSplit}
 use Rattle.translator.specs.Launch as launching

@@ -27,7 +27,7 @@ use Rattle.ports.specs.declared.Sweep.the-variants as sweep
 use Rattle.ports.specs.Ports.{portAt, withPort}
 use Rattle.ports.specs.Sweep.{sweptBy, swept}
 use Rattle.ports.specs.Bitmap.{bitmapOf}
-use Rattle.ports.specs.Ports.{Among}
+use Rattle.port.specs.Words.{Among}
 use Rattle.ports.proofs.Laws.{ports-claims}
 use Rattle.translator.specs.CompleteSplit.{completeSplit}
 use Rattle.translator.specs.Launch.{launch}

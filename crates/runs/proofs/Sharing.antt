@@ -15,9 +15,8 @@ use Rattle.buffer.specs.declared.Buffer.{Buffer}
 use Rattle.buffer.specs.Key.{sameLane}
 use Rattle.buffer.specs.Buffer.{isActive, isFree, activeIn}
 use Rattle.translator.specs.declared.Translator.{Translator}
-use Rattle.translator.specs.Translator.{at}
+use Rattle.translator.specs.Translator.{at, tally}
 use Rattle.bools.specs.Bit.{bit}
-use Rattle.translator.specs.Translator.{tally}
 use Rattle.translator.specs.Limit.{heldBy, AtLimit}
 use Rattle.numbers.specs.Named.{laneFrom}
 use Rattle.request.specs.declared.Kind.{Kind}

@@ -21,9 +21,8 @@ use Rattle.translator.specs.declared.Translator.{Translator}
 use Rattle.translator.specs.declared.LowSide.{LowSide}
 use Rattle.translator.specs.declared.Found.{Found}
 use Rattle.translator.specs.declared.Found.the-variants.{Nowhere, At}
-use Rattle.translator.specs.Translator.{at}
+use Rattle.translator.specs.Translator.{at, tally}
 use Rattle.bools.specs.Bit.{bit}
-use Rattle.translator.specs.Translator.{tally}
 use Rattle.translator.specs.Search.{find}
 use Rattle.translator.specs.CompleteSplit.{completeAt, completeSplit}
 use Rattle.translator.proofs.Finding.{FindSays, find-says}

@@ -12,8 +12,7 @@ use Rattle.buffer.specs.Same.{sameDirection}
 use Rattle.buffer.specs.Buffer.{inLane}
 use Rattle.translator.specs.declared.Choice.{Choice}
 use Rattle.translator.specs.declared.Choice.the-variants.{NoRoom, LimitReached, Held, Reused, Took}
-use Rattle.translator.specs.Translator.{emptied}
-use Rattle.translator.specs.Translator.{tally}
+use Rattle.translator.specs.Translator.{emptied, tally}
 use Rattle.translator.specs.Search.{find, chosen}
 use Rattle.translator.specs.Limit.{heldBy, mayStore, limited, permitted}
 use Rattle.translator.specs.StartSplit.{startBy}

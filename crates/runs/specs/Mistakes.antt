@@ -23,10 +23,9 @@ use Rattle.translator.specs.declared.Earliest.the-variants.{NonePending, Stored
 use Rattle.translator.specs.declared.StartAnswer.the-variants.{Chosen}
 use Rattle.translator.specs.declared.Started.{Started}
 use Rattle.translator.specs.declared.Completed.{Completed}
-use Rattle.translator.specs.Order.{pass}
+use Rattle.translator.specs.Order.{pass, waiting}
 use Rattle.translator.specs.Search.{find}
 use Rattle.translator.specs.Limit.{permitted}
-use Rattle.translator.specs.Order.{waiting}
 use Rattle.translator.specs.CompleteSplit.{completeAt, completeSplit}
 use Rattle.translator.specs.Launch.{launchAt}
 use Rattle.runs.specs.Altered.{TranslatorRules, withStart, withComplete, withLaunch, withClear, OwnServed, altered, holdsKey}

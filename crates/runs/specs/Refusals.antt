@@ -9,9 +9,8 @@ use lib.ListN.{length}
 use Rattle.port.specs.declared.PortNumber.{PortNumber}
 use Rattle.port.specs.declared.LineEvent.{LineEvent}
 use Rattle.port.specs.Status.{hasChange}
-use Rattle.port.specs.Words.{NamedIn}
+use Rattle.port.specs.Words.{NamedIn, Among}
 use Rattle.ports.specs.Ports.{portAt}
-use Rattle.ports.specs.Ports.{Among}
 use Rattle.buffer.specs.declared.Key.{Key}
 use Rattle.buffer.specs.declared.Pid.{Pid}
 use Rattle.buffer.specs.declared.Pid.the-variants as pid

@@ -14,10 +14,9 @@ use Rattle.buffer.specs.declared.Slot.the-variants.{Empty, Pending, Ready, Old}
 use Rattle.buffer.specs.declared.Buffer.{Buffer}
 use Rattle.buffer.specs.Buffer.{vacant, isPending, holds, activeIn}
 use Rattle.translator.specs.Translator.{at}
-use Rattle.translator.specs.Valid.{atPlace}
+use Rattle.translator.specs.Valid.{atPlace, Apart}
 use Rattle.translator.specs.Order.{reranked, rankedIn, ranked}
 use Rattle.translator.specs.ResetLane.{withoutLane}
-use Rattle.translator.specs.Valid.{Apart}
 
 -- what passes a test that an empty buffer fails is one of the list
 pub inside : (f : Slot → Bool) → f Empty ≡ false → (bs : List Buffer) (i : ℕ) → f (at bs i .slot) ≡ true → i < length bs

@@ -16,12 +16,11 @@ use Rattle.translator.specs.declared.Found.the-variants.{At}
 use Rattle.translator.specs.declared.Carried.the-variants.{NoneYet}
 use Rattle.translator.specs.declared.Earliest.the-variants.{NonePending}
 use Rattle.translator.specs.Slots.{slotsIn, bare}
-use Rattle.translator.specs.Order.{pass}
+use Rattle.translator.specs.Order.{pass, isBefore, waiting, before, reranked, rankedIn, sooner, earliest}
 use Rattle.translator.specs.Search.{later, find}
 use Rattle.translator.specs.Limit.{permitted}
 use Rattle.bools.specs.Bit.{bit}
 use Rattle.translator.specs.Translator.{tally}
-use Rattle.translator.specs.Order.{isBefore, waiting, before, reranked, rankedIn, sooner, earliest}
 use Rattle.translator.specs.OnePass.{choiceOf}
 use Rattle.translator.proofs.Search.{looking, pass-permitted}
 

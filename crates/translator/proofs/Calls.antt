@@ -41,14 +41,13 @@ use Rattle.translator.specs.Translator.{at}
 use Rattle.translator.specs.Search.{later, find, chosen}
 use Rattle.translator.specs.Limit.{heldBy, mayStore, limited, permitted, AtLimit, NoRepeat}
 use Rattle.translator.specs.ResetLane.{resetLane}
-use Rattle.translator.specs.Valid.{atPlace}
+use Rattle.translator.specs.Valid.{atPlace, ValidTranslator}
 use Rattle.translator.specs.Order.{waiting, before, ranked, earliest}
 use Rattle.translator.specs.StartSplit.{stored, startBy, startSplit}
 use Rattle.translator.specs.CompleteSplit.{completed, completeAt, completeSplit}
 use Rattle.translator.specs.Launch.{launched, launchAt, launchBy, launch}
 use Rattle.translator.specs.Deliver.{undelivered, delivered, deliverBy, deliver}
 use Rattle.translator.specs.Answers.{isRefusal, startNumber, resultNumber, completeNumber, launchNumber, deliverNumber}
-use Rattle.translator.specs.Valid.{ValidTranslator}
 use Rattle.translator.specs.Claims.{RefusedSame, LaunchesEarliest, Last, StoredLast, SameAgain, OldKept, AbandonedDropped, LaneLimit, LaneReset}
 use Rattle.translator.proofs.At.{inside, at-same, at-other, at-ranked, length-ranked, reranked-idle, at-without-lane}
 use Rattle.translator.proofs.Finding.{FindSays, find-says, ChosenSays, chosen-says, may-store, may-not-store, PermittedSays, permitted-says, First, EarliestSays, earliest-says}

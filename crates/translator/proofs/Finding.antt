@@ -25,10 +25,9 @@ use Rattle.translator.specs.declared.Choice.the-variants.{NoRoom, LimitR
 use Rattle.translator.specs.declared.Earliest.{Earliest}
 use Rattle.translator.specs.declared.Earliest.the-variants.{NonePending, Stored}
 use Rattle.translator.specs.Translator.{at}
-use Rattle.translator.specs.Order.{pass}
+use Rattle.translator.specs.Order.{pass, sooner, earliest}
 use Rattle.translator.specs.Search.{later, find, chooseFree, chooseHeld, chosen}
 use Rattle.translator.specs.Valid.{atPlace}
-use Rattle.translator.specs.Order.{sooner, earliest}
 use Rattle.translator.specs.Limit.{heldBy, mayStore, limited, permitted, AtLimit}
 use Rattle.translator.proofs.At.{placed-pending, only-place}
 

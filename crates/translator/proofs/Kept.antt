@@ -35,12 +35,11 @@ use Rattle.translator.specs.declared.Earliest.{Earliest}
 use Rattle.translator.specs.declared.Earliest.the-variants.{NonePending, Stored}
 use Rattle.translator.specs.declared.StartAnswer.the-variants.{Outside}
 use Rattle.translator.specs.declared.DeliverAnswer.the-variants as answer
-use Rattle.translator.specs.Translator.{at, newTranslator}
+use Rattle.translator.specs.Translator.{at, newTranslator, tally}
 use Rattle.translator.specs.Search.{find}
 use Rattle.translator.specs.Limit.{heldBy, mayStore, permitted, NoRepeat}
 use Rattle.bools.specs.Bit.{bit}
-use Rattle.translator.specs.Translator.{tally}
-use Rattle.translator.specs.Valid.{atPlace}
+use Rattle.translator.specs.Valid.{atPlace, RunsPending, ValidTranslator}
 use Rattle.translator.specs.Order.{waiting, before, reranked, rankedIn, ranked, earliest}
 use Rattle.translator.specs.StartSplit.{stored, startBy, startSplit}
 use Rattle.translator.specs.CompleteSplit.{completed, completeAt, completeSplit}
@@ -48,7 +47,6 @@ use Rattle.translator.specs.Launch.{launched, launchAt, launchBy, launch
 use Rattle.translator.specs.Deliver.{undelivered, delivered, deliverBy, deliver}
 use Rattle.translator.specs.Clear.{lowWithout, clearAt, clearBuffer}
 use Rattle.translator.specs.ResetLane.{withoutLane, lowWithoutLane, resetLane}
-use Rattle.translator.specs.Valid.{RunsPending, ValidTranslator}
 use Rattle.translator.proofs.At.{inside, at-other, at-cases, apart-set, at-ranked, length-ranked, holds-reranked, pending-reranked, active-in-reranked, at-without-lane}
 use Rattle.translator.proofs.Tallies.{tally-set, no-more, tally-map, tally-map-le, tally-take}
 use Rattle.translator.proofs.Finding.{Miss, FindSays, find-says, ChosenSays, isHeld, PermittedSays, permitted-says}

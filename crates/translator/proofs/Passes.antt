@@ -18,8 +18,7 @@ use Rattle.translator.specs.declared.Found.the-variants.{Nowhere, At}
 use Rattle.translator.specs.declared.Earliest.the-variants.{NonePending}
 use Rattle.translator.specs.Translator.{at}
 use Rattle.translator.specs.Slots.{bare}
-use Rattle.translator.specs.Order.{sooner, earliest}
-use Rattle.translator.specs.Order.{pass}
+use Rattle.translator.specs.Order.{sooner, earliest, pass}
 use Rattle.translator.specs.Search.{later, find}
 
 -- a pass over two lists is a pass over the second with what the first left

@@ -12,9 +12,8 @@ use Rattle.buffer.specs.declared.Slot.{Slot}
 use Rattle.buffer.specs.declared.Slot.the-variants.{Empty, Pending, Ready, Old}
 use Rattle.buffer.specs.declared.Buffer.{Buffer}
 use Rattle.buffer.specs.Buffer.{isPending}
-use Rattle.translator.specs.Translator.{at}
+use Rattle.translator.specs.Translator.{at, tally}
 use Rattle.bools.specs.Bit.{bit}
-use Rattle.translator.specs.Translator.{tally}
 use Rattle.translator.specs.Valid.{atPlace}
 use Rattle.translator.specs.Order.{isBefore, waiting, before, reranked, ranked}
 use Rattle.translator.specs.Claims.{RanksKeepOrder}

@@ -23,10 +23,9 @@ use Rattle.translator.specs.declared.Found.the-variants.{Nowhere, At}
 use Rattle.translator.specs.declared.Carried.{Carried}
 use Rattle.translator.specs.declared.Carried.the-variants.{NoneYet, LowestFree, OwnOld, Repeat}
 use Rattle.translator.specs.declared.Choice.the-variants.{NoRoom, LimitReached, Held, Reused, Took}
-use Rattle.translator.specs.Translator.{at}
+use Rattle.translator.specs.Translator.{at, tally}
 use Rattle.translator.specs.Slots.{bare}
 use Rattle.bools.specs.Bit.{bit}
-use Rattle.translator.specs.Translator.{tally}
 use Rattle.translator.specs.Limit.{heldBy, mayStore, limited, permitted}
 use Rattle.translator.specs.Order.{pass}
 use Rattle.translator.specs.Search.{later, find, chooseHeld, chosen}

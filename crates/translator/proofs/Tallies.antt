@@ -10,9 +10,8 @@ use Rattle.buffer.specs.declared.Slot.{Slot}
 use Rattle.buffer.specs.declared.Slot.the-variants.{Empty}
 use Rattle.buffer.specs.declared.Buffer.{Buffer}
 use Rattle.buffer.specs.Buffer.{vacant}
-use Rattle.translator.specs.Translator.{at}
+use Rattle.translator.specs.Translator.{at, tally}
 use Rattle.bools.specs.Bit.{bit}
-use Rattle.translator.specs.Translator.{tally}
 
 pub bits-le : (x y : Bool) → (x ≡ true → y ≡ true) → bit x ≤ bit y
 bits-le true y w = rw (w refl) (omega arith)

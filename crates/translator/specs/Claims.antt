@@ -21,7 +21,7 @@ use Rattle.translator.specs.declared.Choice.the-variants.{LimitReached, 
 use Rattle.translator.specs.declared.StartAnswer.the-variants.{Chosen}
 use Rattle.translator.specs.declared.LaunchAnswer.the-variants.{NothingPending, Launches}
 use Rattle.translator.specs.Translator.{at, newTranslator, emptied}
-use Rattle.translator.specs.Valid.{atPlace}
+use Rattle.translator.specs.Valid.{atPlace, ValidTranslator}
 use Rattle.translator.specs.Order.{ranked}
 use Rattle.translator.specs.Limit.{AtLimit, NoRepeat}
 use Rattle.translator.specs.StartSplit.{startSplit}
@@ -31,7 +31,6 @@ use Rattle.translator.specs.Deliver.{deliver}
 use Rattle.translator.specs.Clear.{clearBuffer}
 use Rattle.translator.specs.ResetLane.{resetLane}
 use Rattle.translator.specs.Answers.{isRefusal, startNumber, completeNumber, launchNumber, deliverNumber}
-use Rattle.translator.specs.Valid.{ValidTranslator}
 
 -- a new translator is valid, and every call leaves a valid one valid
 pub record StaysValid : Type 0 where

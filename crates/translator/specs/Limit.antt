@@ -14,9 +14,8 @@ use Rattle.buffer.specs.Buffer.{isActive, holds, activeIn}
 use Rattle.translator.specs.declared.Translator.{Translator}
 use Rattle.translator.specs.declared.Choice.{Choice}
 use Rattle.translator.specs.declared.Choice.the-variants.{NoRoom, LimitReached, Held, Reused, Took}
-use Rattle.translator.specs.Translator.{at}
+use Rattle.translator.specs.Translator.{at, tally}
 use Rattle.translator.specs.Search.{chosen}
-use Rattle.translator.specs.Translator.{tally}
 
 -- how many buffers the lane l holds pending or ready
 abbrev pub heldBy : Lane → List Buffer → ℕ

@@ -1,8 +1,8 @@
--- Internal, pinned by `LaunchOrder` (crate `runs`), which says which start-split a launch gives: the order of acceptance. A pending buffer has a
--- place; a lower place was stored earlier. On storing, the pending buffers' places become their ranks, from 0 without gaps, and the new one
--- gets the next, so that places never run out.
+-- Internal, pinned by `LaunchOrder` (crate `runs`), which says which start-split a launch gives, and of any translator by `TranslatorClaims`
+-- (Claims.antt): the order of acceptance. A pending buffer has a place; a lower place was stored earlier. On storing, the pending buffers' places
+-- become their ranks, from 0 without gaps, and the new one gets the next, so that places never run out.
 use Prim.Native.Nat.{ℕ, suc}
-use mathlib.Core.Bool.{Bool, true, false, cond}
+use mathlib.Core.Bool.{Bool, false, cond}
 use mathlib.Core.List.{List, [], _∷_, map}
 use lib.Dec.{ltb}
 use Rattle.buffer.specs.declared.Slot.{Slot}

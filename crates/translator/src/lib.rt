@@ -9,7 +9,6 @@ ghost use Rattle.buffer.specs.Buffer.{holds, isPending};
 ghost use Rattle.translator.specs.Limit.{mayStore, permitted};
 ghost use Rattle.translator.specs.OnePass.{past, counted, look, isSettled, heldSoFar, carriedBy, choiceOf, OnePass};
 ghost use Rattle.translator.specs.SearchMistakes.{SearchMistakesShutOut};
-ghost use Rattle.bools.specs.Bit.{bit};
 ghost use Rattle.translator.specs.Order.{isBefore, waiting, before, rankedIn, ranked, sooner, earliest};
 ghost use Rattle.translator.specs.StartSplit.{stored, startSplit};
 ghost use Rattle.translator.specs.CompleteSplit.{given, completed, completeSplit};
@@ -300,12 +299,6 @@ pub fn holder(slots: [Slot; 4], count: BufferCount, key: Key) -> Found
 
 // ---- the order of acceptance
 
-fn how_many(a: bool, b: bool, c: bool, d: bool) -> u8
-    ensures { λ r. ⌜ r ≡ bit a + (bit b + (bit c + bit d)) ⌝ }
-{
-    bools::bit_of(a) + (bools::bit_of(b) + (bools::bit_of(c) + bools::bit_of(d)))
-}
-
 fn is_waiting(slot: Slot) -> bool
     ensures { λ r. ⌜ r ≡ isPending slot ⌝ }
 {
@@ -331,7 +324,7 @@ fn is_before(slot: Slot, place: u8) -> bool
 pub fn count_waiting(slots: [Slot; 4]) -> u8
     ensures { λ r. ⌜ r ≡ waiting (bare slots) ⌝ }
 {
-    how_many(
+    bools::how_many(
         is_waiting(slots[0]),
         is_waiting(slots[1]),
         is_waiting(slots[2]),
@@ -342,7 +335,7 @@ pub fn count_waiting(slots: [Slot; 4]) -> u8
 pub fn rank_of(slots: [Slot; 4], place: u8) -> u8
     ensures { λ r. ⌜ r ≡ before place (bare slots) ⌝ }
 {
-    how_many(
+    bools::how_many(
         is_before(slots[0], place),
         is_before(slots[1], place),
         is_before(slots[2], place),

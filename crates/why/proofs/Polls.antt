@@ -16,10 +16,9 @@ use Rattle.port.specs.declared.ChangeBit.{ChangeBit}
 use Rattle.port.specs.declared.ChangeBit.the-variants.{Connection, Enable, Suspend, OverCurrent, Reset}
 use Rattle.port.specs.Reaction.{noChanges}
 use Rattle.port.specs.Status.{byteOf, hasChange}
-use Rattle.port.specs.Words.{changeBit}
+use Rattle.port.specs.Words.{changeBit, Among}
 use Rattle.ports.specs.Ports.{portAt}
 use Rattle.ports.specs.Bitmap.{portBit, bitmapOf}
-use Rattle.ports.specs.Ports.{Among}
 use Rattle.ports.proofs.Laws.{at-port, ports-claims}
 use Rattle.hub.specs.declared.Hub.{Hub}
 use Rattle.hub.specs.Call.{refuse, gives}

@@ -1,5 +1,4 @@
-use Rattle.area.proofs.Parts.{second-part}
-use Rattle.area.proofs.Parts.{put-both}
+use Rattle.area.proofs.Parts.{second-part, put-both}
 use lib.ListN.{length}
 use mathlib.Core.Path.{_≡_, sym, ap, _∙_}
 use borrow.Author.Needs.{needs}

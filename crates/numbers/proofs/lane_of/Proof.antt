@@ -1,5 +1,4 @@
 use borrow.Author.Tests.{ne-eqb}
-use borrow.Author.Tests.{ne-eqb}
 use Rattle.numbers.proofs.lane_of.Statement.{statement}
 use Rattle.numbers.proofs.lane_of.Tie as tie
 

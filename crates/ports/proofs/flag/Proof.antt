@@ -11,11 +11,11 @@ changed-requires c κs = search needs
 both-requires : tie.Need-both-requires
 both-requires c κs = search needs
 
-returns : tie.Need-returns
-returns c = (rw (← c .before .before .changed .ensures, ← c .before .both .ensures, c .if1 .taken), search needs)
+bit-of-requires : tie.Need-bit-of-requires
+bit-of-requires c κs = search needs
 
-returns-2 : tie.Need-returns-2
-returns-2 c = (rw (← c .before .before .changed .ensures, ← c .before .both .ensures, c .if1 .left), search needs)
+returns : tie.Need-returns
+returns c = (rw (c .bit-of .ensures .0, c .before .both .ensures, c .before .before .changed .ensures), c .bit-of .ensures .1)
 
 pub flag-spec : {M : Type 1} → statement M
-flag-spec = tie.close (tie.spec cast-both changed-requires both-requires returns returns-2)
+flag-spec = tie.close (tie.spec cast-both changed-requires both-requires bit-of-requires returns)

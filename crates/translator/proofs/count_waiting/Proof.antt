@@ -37,7 +37,7 @@ returns : tie.Need-returns
 returns c =
     let s = c .before .before .before .before .before .before .before .before .before in
     let l : length (s .args .t1) ≡ 4 = search needs in
-    tally-four _ (s .args .t1) l isPending (c .how-many .ensures) (c .before .before .before .before .before .before .before .is-waiting .ensures) (c .before .before .before .before .before .is-waiting2 .ensures) (c .before .before .before .is-waiting3 .ensures) (c .before .is-waiting4 .ensures)
+    tally-four _ (s .args .t1) l isPending (c .how-many .ensures .0) (c .before .before .before .before .before .before .before .is-waiting .ensures) (c .before .before .before .before .before .is-waiting2 .ensures) (c .before .before .before .is-waiting3 .ensures) (c .before .is-waiting4 .ensures)
 
 pub count-waiting-spec : {M : Type 1} → statement M
 count-waiting-spec =

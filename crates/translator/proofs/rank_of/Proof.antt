@@ -37,7 +37,7 @@ returns : tie.Need-returns
 returns c =
     let s = c .before .before .before .before .before .before .before .before .before in
     let l : length (s .args .t1) ≡ 4 = search needs in
-    tally-four _ (s .args .t1) l (isBefore (s .args .place)) (c .how-many .ensures) (c .before .before .before .before .before .before .before .is-before .ensures) (c .before .before .before .before .before .is-before2 .ensures) (c .before .before .before .is-before3 .ensures) (c .before .is-before4 .ensures)
+    tally-four _ (s .args .t1) l (isBefore (s .args .place)) (c .how-many .ensures .0) (c .before .before .before .before .before .before .before .is-before .ensures) (c .before .before .before .before .before .is-before2 .ensures) (c .before .before .before .is-before3 .ensures) (c .before .is-before4 .ensures)
 
 pub rank-of-spec : {M : Type 1} → statement M
 rank-of-spec =

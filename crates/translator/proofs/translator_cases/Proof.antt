@@ -3,10 +3,9 @@ use mathlib.Core.Path.{refl}
 use Rattle.payload.specs.Payload.{padded, payloadOf}
 use Rattle.buffer.specs.Same.{sameKey}
 use Rattle.buffer.specs.Lengths.{numbersFit, startFits, resultLength}
-use Rattle.translator.specs.Order.{pass}
+use Rattle.translator.specs.Order.{pass, ranked, earliest}
 use Rattle.translator.specs.Search.{find, chosen}
 use Rattle.translator.specs.Translator.{tally}
-use Rattle.translator.specs.Order.{ranked, earliest}
 use Rattle.translator.specs.StartSplit.{stored, startSplit}
 use Rattle.translator.specs.CompleteSplit.{completeSplit}
 use Rattle.translator.specs.Launch.{launch}
