@@ -87,6 +87,7 @@ entry-refusals =
       unchanged = λ r a x e. as-it-was a x r e;
       untouched = untouched;
       given = λ h x v. answer-same h v x;
+      left = λ h x v. ap (λ (g : EntryOutcome). g .area) (gives-taken h v x);
       counted = counted;
       no-data = λ a x n. no-bytes a x n .1;
       same-length = same-length;

@@ -162,6 +162,11 @@ keeps-area claim =
     let e = sym (filled-is memory) ∙ claim memory (configuring ∷ []) in
     let z : _≡_ {A = ℕ} 0 1 = ap (λ (l : List ℕ). getD l 5 0) e in omega (arith, z)
 
+keeps-lent : ¬ (EntryRefusals keepsArea)
+unfolding step within hasSpace notSilent fitting served requested requestOf checked kindOf configuredAs front swept written headBytes
+keeps-lent claim =
+    let z : _≡_ {A = ℕ} 0 1 = ap (λ (l : List ℕ). getD l 5 0) (claim .left fresh configuring fresh-valid) in omega (arith, z)
+
 -- ---- new hubs
 
 -- memory of the length that the bench hub takes
@@ -208,6 +213,7 @@ entry-mistakes-shut-out =
       says-more = says-more;
       takes-longer = takes-longer;
       keeps-area = keeps-area;
+      keeps-lent = keeps-lent;
       makes-longer = makes-longer;
       refused-writes = refused-writes;
       keeps-byte = keeps-byte;

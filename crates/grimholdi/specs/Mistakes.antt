@@ -100,6 +100,7 @@ pub record EntryMistakesShutOut : Type 0 where
   pub says-more : ¬ (EntryRefusals (λ a x. onNumber 1 oneMore (gives a x)))
   pub takes-longer : ¬ (EntryRefusals takesLonger)
   pub keeps-area : ¬ (AreaFollows keepsArea)
+  pub keeps-lent : ¬ (EntryRefusals keepsArea)
   pub makes-longer : ¬ (NewHubs makesLonger)
   pub refused-writes : ¬ (NewHubs refusedWrites)
   pub keeps-byte : ¬ (NewHubs keepsByte)

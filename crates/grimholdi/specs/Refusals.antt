@@ -32,6 +32,8 @@ pub record EntryRefusals (g : List ℕ → Asked → EntryOutcome) : Type 0 wher
   pub untouched : (a : List ℕ) (x : Asked) → (g a x .answer .number ≡ 0) ⊎ (g a x .answer .number ≡ 9) → g a x .reply ≡ replyOf x
   -- what the caller sees is what the rule answers, its bytes at the start of the reply space,
   pub given : (h : Hub) (x : Asked) → ValidHub h → seen (g (written h) x) ≡ step h (callOf x) .answer
+  -- and the area is the written form of the hub that the rule leaves, also where no run of calls leads to it
+  pub left : (h : Hub) (x : Asked) → ValidHub h → g (written h) x .area ≡ written (step h (callOf x) .next)
   -- n, the answer's length, is how many they are: 0 but for data
   pub counted : (a : List ℕ) (x : Asked) → length (seen (g a x) .bytes) ≡ g a x .answer .length
   pub no-data : (a : List ℕ) (x : Asked) → ¬ (g a x .answer .number ≡ 1) → g a x .answer .length ≡ 0
