@@ -78,26 +78,31 @@ void set_configuration(const computer *from)
     set_request(from, setup, "SetConfiguration 1");
 }
 
+/* SetPortFeature or ClearPortFeature, as `request` says. */
+static void port_request(const computer *from, const uint8_t *setup,
+                         const char *request, uint32_t feature, uint32_t port)
+{
+    char words[WORDS];
+
+    snprintf(words, sizeof words, "%s %s, port %u", request,
+             feature_name(feature), (unsigned)port);
+    set_request(from, setup, words);
+}
+
 void set_port_feature(const computer *from, uint32_t feature, uint32_t port)
 {
     uint8_t setup[GRIMHOLDI_SETUP_LENGTH];
-    char words[WORDS];
 
     grimholdi_setup_set_port_feature(setup, feature, port);
-    snprintf(words, sizeof words, "SetPortFeature %s, port %u",
-             feature_name(feature), (unsigned)port);
-    set_request(from, setup, words);
+    port_request(from, setup, "SetPortFeature", feature, port);
 }
 
 void clear_port_feature(const computer *from, uint32_t feature, uint32_t port)
 {
     uint8_t setup[GRIMHOLDI_SETUP_LENGTH];
-    char words[WORDS];
 
     grimholdi_setup_clear_port_feature(setup, feature, port);
-    snprintf(words, sizeof words, "ClearPortFeature %s, port %u",
-             feature_name(feature), (unsigned)port);
-    set_request(from, setup, words);
+    port_request(from, setup, "ClearPortFeature", feature, port);
 }
 
 void poll_changes(const computer *from, uint8_t bitmap)
