@@ -9,7 +9,7 @@ LIBRARY ?= $(PROVED)
 PREFIX ?= /usr/local
 
 .DEFAULT_GOAL := test
-.PHONY: test check check-texts lib install uninstall
+.PHONY: test check check-texts port-chart lib install uninstall
 
 include tests/tests.mk
 
@@ -20,12 +20,19 @@ check: check-texts
 	rt check
 
 # Without a proof: the expected table of the port is the one that a model of its own writes, from the rules as document 01, corrected by C-12,
-# words them; the claims that docs/PROMISES.md names are those that functions ensure; docs/READING.md names every specification
-# with its lines; docs/ARCHITECTURE.svg shows the crates as they are; the constants of the headers are the numbers of the specs.
+# words them, and so are its chart and the chart's constant, which docs/PORTS.svg and docs/PORTS.md show; the claims that
+# docs/PROMISES.md names are those that functions ensure; docs/READING.md names every specification with its lines;
+# docs/ARCHITECTURE.svg shows the crates as they are; the constants of the headers are the numbers of the specs.
 check-texts:
 	rt fmt --check
 	python3 tests/port_table.py --self-test
 	python3 tests/port_table.py | cmp - crates/port_table/stdout
+	python3 tests/port_chart.py --self-test
+	python3 tests/port_chart.py | cmp - crates/port_chart/stdout
+	python3 tests/port_chart.py --check crates/chart/src/table.rt
+	python3 tests/port_chart.py --sum | cmp - crates/port_engines/stdout
+	python3 tests/ports_picture.py --check
+	python3 tests/ports_picture.py --self-test
 	python3 tests/pins.py
 	python3 tests/pins.py --self-test
 	python3 tests/reading.py
@@ -34,6 +41,10 @@ check-texts:
 	python3 tests/architecture.py --self-test
 	python3 tests/constants.py
 	python3 tests/constants.py --self-test
+
+# The rules of a port as a chart, which docs/PORTS.md explains: what the program `port_chart` prints; the gate holds it to this file.
+port-chart:
+	@cat crates/port_chart/stdout
 
 lib: $(LIBRARY)
 

@@ -29,7 +29,9 @@ sys.dont_write_bytecode = True
 import architecture_table as table
 from architecture_planted import PLANTS
 from architecture_routes import (Arrow, BETWEEN_TRACKS, Box, CHANNEL_EDGE,
-                                 Grid, Unfit, height)
+                                 Grid, height)
+from drawing import (AMBER_BOX, BANDS, BLUE, BLUE_BOX, FAINT, GREEN, GREY_BOX,
+                     GREEN_BOX, PURPLE, PURPLE_BOX, Drawing, Unfit, width_of)
 from pins import ROOT, crates_of, functions_of, in_folder, read_texts
 
 PICTURE = "docs/ARCHITECTURE.svg"
@@ -49,21 +51,27 @@ MARGIN = 14
 NAME, TEXT = 13, 11
 STEP, C_STEP, BETWEEN_STEPS = 40, 26, 12
 
-INK, FAINT, PAPER = "#1d2733", "#5a6672", "#ffffff"
-BANDS = ("#eef1f4", "#f7f8fa")
-FILLS = {
-    "ships": ("#d9e8f6", "#2f679e"),
-    "claims": ("#eadcf3", "#77479b"),
-    "program": ("#fdeac0", "#a87508"),
-    "c": ("#dcefdb", "#3f7f43"),
-}
-LINES = {"calls": "#2f5d8a", "cites": "#8a62aa", "c": "#3f7f43"}
+FILLS = {"ships": BLUE_BOX, "beside": GREY_BOX, "claims": PURPLE_BOX,
+         "program": AMBER_BOX, "c": GREEN_BOX}
+LINES = {"calls": BLUE, "cites": PURPLE, "c": GREEN}
 SAID = (
     ("ships", "code that ships"),
+    ("beside", "not called by C"),
     ("claims", "claims, no code"),
-    ("program", "program that the gate runs"),
+    ("program", "program in the gate"),
     ("c", "C"),
 )
+
+
+class Picture(Drawing):
+    """Of the crates."""
+
+    def __init__(self):
+        super().__init__(
+            "The crates of Grimholdi, and two of its calls", TABLE)
+
+    def arrow(self, points, kind):
+        self.way(points, LINES[kind], kind == "cites")
 
 
 # What is drawn.
@@ -114,107 +122,30 @@ def kind_of(texts, crate):
     if "crates/%s/src/main.rt" % crate in texts:
         return "program"
     bodies = [function.body for function in functions_of(texts, crate)]
-    return "ships" if any(bodies) else "claims"
+    if not any(bodies):
+        return "claims"
+    calls = calls_of(texts)
+    ships = any(crate == entry or crate in below(calls, entry)
+                for entry in entries_of(texts))
+    return "ships" if ships else "beside"
+
+
+def entries_of(texts):
+    return [crate for crate in crates_of(texts)
+            if 'extern "C" fn' in code_of(texts, crate)]
 
 
 def arrows_of(texts):
     calls = reduced(calls_of(texts))
     cites = [pair for pair in reduced(builds_of(texts)) if pair not in calls]
     header = table.HEADER.name
-    entries = [crate for crate in crates_of(texts)
-               if 'extern "C" fn' in code_of(texts, crate)]
+    entries = entries_of(texts)
     users = [part.name for layer in table.C_SIDE for part in layer.parts
              if part.name != header]
     return ([Arrow(user, header, "c") for user in users]
             + [Arrow(header, entry, "c") for entry in entries]
             + [Arrow(*pair, "calls") for pair in calls]
             + [Arrow(*pair, "cites") for pair in cites])
-
-
-# Text.
-
-def width_of(text, size, is_bold=False):
-    """At least what a browser takes, in any usual font without serifs."""
-    ems = 0
-    for sign in text:
-        if sign in "ijlI'|":
-            ems += 0.34
-        elif sign in " .,:;!/()[]ftr-":
-            ems += 0.42
-        elif sign in "mwMW%@&#+=<>~":
-            ems += 1
-        elif sign.isupper():
-            ems += 0.79
-        else:
-            ems += 0.64
-    return ems * size * (1.18 if is_bold else 1)
-
-
-def escaped(text):
-    return text.replace("&", "&amp;").replace("<", "&lt;").replace(">",
-                                                                   "&gt;")
-
-
-class Drawing:
-    def __init__(self):
-        self.lines = []
-
-    def add(self, line, *given):
-        self.lines.append(line % given)
-
-    def rect(self, x, y, width, high, fill, stroke=None, radius=0):
-        self.add('<rect x="%g" y="%g" width="%g" height="%g"%s fill="%s"%s/>',
-                 x, y, width, high, ' rx="%g"' % radius if radius else "",
-                 fill, ' stroke="%s"' % stroke if stroke else "")
-
-    def text(self, x, y, text, size, room, fill=INK, bold=False,
-             anchor="middle"):
-        if width_of(text, size, bold) > room:
-            raise Unfit("%s: '%s' is too long: %d pixels of %d" % (
-                TABLE, text, width_of(text, size, bold), room))
-        self.add('<text x="%g" y="%g" font-size="%g" fill="%s"%s%s>%s</text>',
-                 x, y, size, fill,
-                 ' text-anchor="middle"' if anchor == "middle" else "",
-                 ' font-weight="bold"' if bold else "", escaped(text))
-
-    def way(self, points, kind):
-        """A line with round corners and a head at its end."""
-        colour = LINES[kind]
-        words = ["M%g %g" % points[0]]
-        for before, corner, behind in zip(points, points[1:], points[2:]):
-            near, far = (towards(corner, before, 5),
-                         towards(corner, behind, 5))
-            words += ["L%g %g" % near, "Q%g %g %g %g" % (corner + far)]
-        end = points[-1]
-        words.append("L%g %g" % towards(end, points[-2], 6))
-        dash = ' stroke-dasharray="5 3"' if kind == "cites" else ""
-        self.add('<path d="%s" fill="none" stroke="%s" stroke-width="1.4"%s/>',
-                 "".join(words), colour, dash)
-        across = (4, 0) if end[0] == points[-2][0] else (0, 4)
-        base = towards(end, points[-2], 8)
-        self.add('<path d="M%g %gL%g %gL%g %gZ" fill="%s"/>', end[0], end[1],
-                 base[0] - across[0], base[1] - across[1],
-                 base[0] + across[0], base[1] + across[1], colour)
-
-    def picture(self, high):
-        return "\n".join([
-            '<svg xmlns="http://www.w3.org/2000/svg" width="%d" height="%d" '
-            'viewBox="0 0 %d %d" font-family="system-ui, -apple-system, '
-            "'Segoe UI', Roboto, Helvetica, Arial, sans-serif\">"
-            % (WIDTH, high, WIDTH, high),
-            "<title>The crates of Grimholdi, and two of its calls</title>",
-            '<rect width="%d" height="%d" fill="%s"/>' % (WIDTH, high, PAPER),
-        ] + self.lines + ["</svg>", ""])
-
-
-def towards(start, end, length):
-    """The point so far from `start`, or half way if `end` is near."""
-    across, down = end[0] - start[0], end[1] - start[1]
-    way = abs(across) + abs(down)
-    if way == 0:
-        return start
-    share = min(length, way / 2) / way
-    return start[0] + across * share, start[1] + down * share
 
 
 # The crates.
@@ -311,7 +242,7 @@ class Layers:
         for place, layer in enumerate(labelled):
             self.band(drawing, layer, BANDS[place % 2])
         for arrow in self.arrows:
-            drawing.way(self.points(arrow), arrow.kind)
+            drawing.arrow(self.points(arrow), arrow.kind)
         crates = crates_of(self.texts)
         for layer in self.layers:
             for part in layer.parts:
@@ -363,7 +294,7 @@ def draw_flow(drawing, flow, left, width, top):
         drawing.text(centre, y + 17, words, TEXT, boxes - 6)
 
     def down(y):
-        drawing.way([(centre, y - BETWEEN_STEPS), (centre, y)], "calls")
+        drawing.arrow([(centre, y - BETWEEN_STEPS), (centre, y)], "calls")
 
     c_box(top + 30, flow.starts)
     y = top + 30 + C_STEP + BETWEEN_STEPS
@@ -373,7 +304,7 @@ def draw_flow(drawing, flow, left, width, top):
         drawing.text(centre, y + 16, step.says, TEXT, boxes - 6)
         drawing.text(centre, y + 31, called(step), TEXT, boxes - 6, FAINT)
         if step.leaves:
-            drawing.way([(left + boxes, y + STEP / 2),
+            drawing.arrow([(left + boxes, y + STEP / 2),
                          (left + boxes + 26, y + STEP / 2)], "calls")
         for place, line in enumerate(step.leaves):
             drawing.text(left + boxes + 32, y + STEP / 2 + 11
@@ -404,7 +335,7 @@ def legend(drawing):
         x += 28 + room + 16
     for kind, words in (("calls", "calls"),
                         ("cites", "definitions and proofs only")):
-        drawing.way([(x, 49), (x + 34, 49)], kind)
+        drawing.arrow([(x, 49), (x + 34, 49)], kind)
         room = width_of(words, TEXT)
         drawing.text(x + 40, 53, words, TEXT, room, anchor="start")
         x += 40 + room + 16
@@ -413,7 +344,7 @@ def legend(drawing):
 
 
 def picture(texts):
-    drawing = Drawing()
+    drawing = Picture()
     legend(drawing)
     layers = Layers(texts)
     layers.draw(drawing)
@@ -424,7 +355,7 @@ def picture(texts):
     bottom = max(draw_flow(drawing, flow,
                            MARGIN + place * (width + MARGIN), width, top + 30)
                  for place, flow in enumerate(table.FLOWS))
-    return drawing.picture(round(bottom + MARGIN))
+    return drawing.picture(WIDTH, round(bottom + MARGIN))
 
 
 # What is compared.

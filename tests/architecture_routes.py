@@ -9,14 +9,12 @@ out.  In the same row it goes straight to a neighbour.
 from itertools import permutations
 from typing import NamedTuple
 
+from drawing import Unfit
+
 BETWEEN_PORTS = 15      # arrows at one side of a box
 BETWEEN_LANES = 10      # arrows down one column or gap
 BETWEEN_TRACKS = 9      # arrows across one channel
 CHANNEL_EDGE = 13       # of a channel, above its first track, below its last
-
-
-class Unfit(Exception):
-    """The table can't be drawn."""
 
 
 class Box(NamedTuple):

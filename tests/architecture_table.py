@@ -49,6 +49,8 @@ LAYERS = (
                                  "states, events, timers")),
         Part("ports", 3, (2, 2), ("the first N ports:",
                                   "sweep, one, bitmap")),
+        Part("chart", 3, (1, 1), ("a port's rules as a",
+                                  "table, looked up")),
         Part("buffer", 2, (4, 4), ("keys, start-splits,",
                                    "results, one buffer")),
         Part("translator", 3, (4, 4), ("search, order, low",
@@ -67,6 +69,8 @@ LAYERS = (
     )),
     Layer(("Claims", "over runs"), (
         Part("runs", 6, (2, 2), ("claims over whole", "runs of calls")),
+        Part("hub_chart", 6, (3, 3), ("each port of the hub",
+                                      "follows the chart")),
         Part("isolation", 6, (1, 1), ("one port cannot", "disturb another")),
     )),
     Layer(("Written", "forms"), (
@@ -94,8 +98,12 @@ LAYERS = (
                                               "an area's hub")),
     )),
     Layer((), (
-        Part("port_table", 2, (1, 1), ("prints the whole",
+        Part("port_table", 4, (2, 2), ("prints the whole",
                                        "port machine")),
+        Part("port_chart", 4, (1, 1), ("prints the chart for",
+                                       "people")),
+        Part("port_engines", 5, (1, 1), ("steps by rules or",
+                                         "chart, to be counted")),
         Part("bench_cases", 5, (5, 5), ("runs bench cases",
                                         "that are not proved")),
     )),

@@ -7,7 +7,10 @@ pins.py --self-test  plants faults and fails unless each is found
 
 A pin is a function of crates/*/src with an empty body and the contract
     ensures { λ _. ⌜ CLAIM ⌝ }
-alone: it proves the claim and does nothing else.  Demanded is that
+alone: it proves the claim and does nothing else.  Or it hands out a constant,
+takes and requires nothing, and its contract is
+    ensures { λ r. ⌜ CLAIM ⌝ }
+alone, a claim of its result.  Demanded is that
 - the table has a row for each pin, with exactly its statement, and no other;
 - the claim is explained: a line elsewhere in docs/PROMISES.md names it and
   its crate;
@@ -44,6 +47,7 @@ FUNCTION = re.compile(r'((?:#\[[^]]*\]\s*)*)(pub\s+)?(?:extern\s+"C"\s+)?'
                       r"fn\s+(\w+)")
 CLAUSE = re.compile(r"\b(requires|ensures)\b[^{]*$")
 STATED = re.compile(r"λ _\. ⌜ ([A-Z].*) ⌝")
+STATED_OF_RESULT = re.compile(r"λ r\. ⌜ ([A-Z].*\br\b.*) ⌝")
 DEFINITION = re.compile(r"(?:pub )?(?:abbrev|unfoldable|opaque|record|data) "
                         r"(?:pub )?([^\s:]+)(.*)")
 TAKES_NOTHING = re.compile(r"\s*:\s*Type \d+(?: where)?")
@@ -204,8 +208,10 @@ class Project:
         self.faults.append(words % given)
 
     def pins_in(self, function):
-        """The function as a pin, if its body is empty."""
-        if function.body or not function.ensures:
+        """The function as a pin, if it is one."""
+        if function.body:
+            return self.pins_of_result(function)
+        if not function.ensures:
             return []
         stated = STATED.fullmatch(function.ensures[0])
         if stated is None or len(function.ensures) != 1:
@@ -219,6 +225,13 @@ class Project:
                        function.file, function.name, stated.group(1))
             return []
         return [Pin(function.crate, function.name, stated.group(1))]
+
+    def pins_of_result(self, function):
+        if function.requires or function.takes or len(function.ensures) != 1:
+            return []
+        stated = STATED_OF_RESULT.fullmatch(function.ensures[0])
+        return [] if stated is None else [
+            Pin(function.crate, function.name, stated.group(1))]
 
     # Names.
 
@@ -295,8 +308,8 @@ class Project:
             self.fault("crates/%s/src: fn %s ensures `%s`; the table of %s "
                        "says `%s`", crate, name, ensured[0], PROMISES, claim)
         else:
-            self.fault("crates/%s/src: no empty fn %s ensures `%s`, as the "
-                       "table of %s says", crate, name, claim, PROMISES)
+            self.fault("crates/%s/src: no fn %s pins `%s`, as the table of "
+                       "%s says", crate, name, claim, PROMISES)
 
     def check_explained(self):
         for pin in self.pins:

@@ -5,6 +5,7 @@ A plant changes the texts, which are given by their paths.
 
 PROMISES = "docs/PROMISES.md"
 HEADING = "## Pinned claims"
+CHART = "crates/chart/src/lib.rt"
 RUNS = "crates/runs/src/lib.rt"
 ENTRIES = "crates/grimholdi/src/lib.rt"
 DEMAND_3 = "| `Demand3 rules` | `demand_3` | `runs` |\n"
@@ -50,12 +51,12 @@ PIN = "fn demand_3()\n    ensures { λ _. ⌜ Demand3 rules ⌝ }\n{}\n"
 # What is planted, and a fault that has to be found.
 PLANTS = [
     ("a pin dropped from the code", changed(RUNS, PIN, ""),
-     "crates/runs/src: no empty fn demand_3 ensures `Demand3 rules`, as the "
-     "table of docs/PROMISES.md says"),
+     "crates/runs/src: no fn demand_3 pins `Demand3 rules`, as the table of "
+     "docs/PROMISES.md says"),
     ("a pin commented out", changed(
         RUNS, PIN, "".join("// " + line + "\n" for line in PIN.splitlines())),
-     "crates/runs/src: no empty fn demand_3 ensures `Demand3 rules`, as the "
-     "table of docs/PROMISES.md says"),
+     "crates/runs/src: no fn demand_3 pins `Demand3 rules`, as the table of "
+     "docs/PROMISES.md says"),
     ("a pin that says less", changed(RUNS, "⌜ Demand3 rules ⌝",
                                      "⌜ Demand2 rules ⌝"),
      "crates/runs/src: fn demand_3 ensures `Demand2 rules`; the table of "
@@ -79,18 +80,26 @@ PLANTS = [
         "    ensures more { λ _. ⌜ Reached ⌝ }\n"),
      "crates/runs/src/lib.rt: fn demand_3 has an empty body, and its contract "
      "is not one `ensures { λ _. ⌜ CLAIM ⌝ }`"),
+    ("a claim of a result dropped", changed(
+        CHART, "EnginesAgree (lookedUp r)", "r ≡ r"),
+     "crates/chart/src: no fn chart pins `EnginesAgree (lookedUp r)`, as the "
+     "table of docs/PROMISES.md says"),
+    ("a claim of a result for every argument alone", changed(
+        CHART, "pub fn chart()", "pub fn chart(never: Never)"),
+     "crates/chart/src: no fn chart pins `EnginesAgree (lookedUp r)`, as the "
+     "table of docs/PROMISES.md says"),
     ("a pin that the table lacks", changed(PROMISES, DEMAND_3, ""),
      "docs/PROMISES.md: the table lacks `Demand3 rules`, which fn demand_3 of "
      "crate runs ensures"),
     ("a row without a pin", changed(
         PROMISES, DEMAND_3,
         DEMAND_3 + "| `Demand4 rules` | `demand_4` | `runs` |\n"),
-     "crates/runs/src: no empty fn demand_4 ensures `Demand4 rules`, as the "
-     "table of docs/PROMISES.md says"),
+     "crates/runs/src: no fn demand_4 pins `Demand4 rules`, as the table of "
+     "docs/PROMISES.md says"),
     ("a row of another crate", changed(
         PROMISES, DEMAND_3, DEMAND_3.replace("`runs`", "`hub`")),
-     "crates/hub/src: no empty fn demand_3 ensures `Demand3 rules`, as the "
-     "table of docs/PROMISES.md says"),
+     "crates/hub/src: no fn demand_3 pins `Demand3 rules`, as the table of "
+     "docs/PROMISES.md says"),
     ("a row twice", changed(PROMISES, DEMAND_3, DEMAND_3 + DEMAND_3),
      "docs/PROMISES.md: a row stands twice: " + DEMAND_3.strip()),
     ("two rows exchanged", exchanged,

@@ -24,7 +24,8 @@
 #                        fail each time
 #   make why             the tool why, on the example's own NAK
 #   make replay          the tool replay, on the example's own recording
-#   make speed           instructions per call, against inplace.c
+#   make speed           instructions per call, against inplace.c, and of a
+#                        port's two engines
 #
 # LIBRARY names the static library; LDLIBS what else it needs.  For a trial
 # without it:  make lib-stand-in && make test-c LIBRARY=$(STAND_IN)
@@ -220,5 +221,12 @@ test-replay: $(TARGET)/replay $(SESSION) $(SESSION_ANSWERS) model
 	python3 -B tests/tools/test_replay.py $(SESSION) $(SESSION_ANSWERS) \
 		$(MODEL) $(REPLAY_UNDER) $(TARGET)/replay
 
-speed: $(LIBRARY)
+# The program is proved and compiled by rt, which writes into target/.
+ENGINES := target/bin/port_engines
+$(ENGINES): crates.txt $(shell find crates/bools crates/port crates/chart \
+		crates/port_engines -name '*.rt' -o -name '*.antt')
+	rt check port_engines
+
+speed: $(LIBRARY) $(ENGINES)
 	CC="$(CC)" LDLIBS="$(LDLIBS)" tests/speed/speed.sh $(LIBRARY) $(TARGET)/speed
+	tests/speed/engines.sh $(ENGINES) $(TARGET)/speed

@@ -12,7 +12,7 @@ use Rattle.payload.specs.Payload.{padded}
 use Rattle.port.specs.declared.Port.{Port}
 use Rattle.bools.specs.Bit.{bit}
 use Rattle.port.specs.Reaction.{newPort}
-use Rattle.port.specs.Words.{TimerBelowEnd}
+use Rattle.port.specs.Words.{isNotConfigured, TimerBelowEnd}
 use Rattle.buffer.specs.declared.Slot.{Slot}
 use Rattle.buffer.specs.declared.Buffer.{Buffer}
 use Rattle.buffer.specs.Buffer.{vacant}
@@ -23,7 +23,7 @@ use Rattle.translator.specs.Limit.{heldBy}
 use Rattle.translator.specs.Valid.{ValidTranslator}
 use Rattle.hub.specs.declared.Identity.{Identity}
 use Rattle.hub.specs.declared.Hub.{Hub}
-use Rattle.hub.specs.Valid.{ValidHub, isNotConfigured}
+use Rattle.hub.specs.Valid.{ValidHub}
 use Rattle.area.specs.declared.Read.{Read}
 use Rattle.payload.specs.Bytes.{flat}
 use Rattle.area_check.specs.Rows.{parts, every}

@@ -14,12 +14,13 @@ use Rattle.port.specs.declared.PortState.the-variants.{NotConfigured, PoweredOf
 use Rattle.port.specs.declared.Port.{Port}
 use Rattle.bools.specs.Bit.{bit}
 use Rattle.port.specs.Status.{byteOf}
-use Rattle.port.specs.Words.{TimerBelowEnd, bitsOf}
+use Rattle.port.specs.Numbers.{stateNumber, speedNumber, stateSpeed, ticksSoFar}
+use Rattle.port.specs.FromNumbers.{speedOf, stateOf, endOf}
+use Rattle.port.specs.Words.{isNotConfigured, TimerBelowEnd, bitsOf}
 use Rattle.port.proofs.Bits.{bits-back}
 use Rattle.translator.proofs.Lists.{four}
-use Rattle.hub.specs.Valid.{isNotConfigured}
-use Rattle.area.specs.Written.{stateByte, speedNumber, speedByte, ticksByte, marksByte, portBytes}
-use Rattle.area_check.specs.Read.{isOdd, speedOf, stateOf, markedPort, portOf, speedsOf, endOf, agrees, stateFits, portFits}
+use Rattle.area.specs.Written.{marksByte, portBytes}
+use Rattle.area_check.specs.Read.{isOdd, markedPort, portOf, speedsOf, agrees, stateFits, portFits}
 
 -- ---- bits
 
@@ -60,7 +61,7 @@ speed-lt Low = refl
 speed-lt Full = refl
 speed-lt High = refl
 
-state-again : (s : PortState) → stateOf (stateByte s) (speedOf (speedByte s)) (ticksByte s) ≡ s
+state-again : (s : PortState) → stateOf (stateNumber s) (speedOf (stateSpeed s)) (ticksSoFar s) ≡ s
 state-again NotConfigured = refl
 state-again PoweredOff = refl
 state-again Disconnected = refl
@@ -72,9 +73,9 @@ state-again (Resuming v t) = ap (λ (x : Speed). Resuming x t) (speed-again v)
 
 -- what a right state says
 record StateRead (g : Bool) (n v t : ℕ) : Type 0 where
-  state : stateByte (stateOf n (speedOf v) t) ≡ n
-  speed : speedByte (stateOf n (speedOf v) t) ≡ v
-  ticks : ticksByte (stateOf n (speedOf v) t) ≡ t
+  state : stateNumber (stateOf n (speedOf v) t) ≡ n
+  speed : stateSpeed (stateOf n (speedOf v) t) ≡ v
+  ticks : ticksSoFar (stateOf n (speedOf v) t) ≡ t
   timer : TimerBelowEnd (stateOf n (speedOf v) t)
   agree : isNotConfigured (stateOf n (speedOf v) t) ≡ not g
 
@@ -139,7 +140,7 @@ configured-of : (g : Bool) → false ≡ not g → g ≡ true
 configured-of true e = refl
 configured-of false e = absurd (false≢true e)
 
-state-of : (g : Bool) (s : PortState) → TimerBelowEnd s → isNotConfigured s ≡ not g → stateFits g (stateByte s) (speedByte s) (ticksByte s) ≡ true
+state-of : (g : Bool) (s : PortState) → TimerBelowEnd s → isNotConfigured s ≡ not g → stateFits g (stateNumber s) (stateSpeed s) (ticksSoFar s) ≡ true
 state-of g NotConfigured h e = sym e
 state-of g PoweredOff h e = configured-of g e
 state-of g Disconnected h e = configured-of g e
@@ -174,7 +175,7 @@ marks-again s p = ap (withBits s) (bits-back (marksOf p))
 
 pub port-again : (p : Port) → portOf (portBytes p) ≡ p
 unfolding portOf portBytes
-port-again p = marks-again (stateOf (stateByte (p .state)) (speedOf (speedByte (p .state))) (ticksByte (p .state))) p ∙ ap (λ (s : PortState). withBits s (marksOf p)) (state-again (p .state))
+port-again p = marks-again (stateOf (stateNumber (p .state)) (speedOf (stateSpeed (p .state))) (ticksSoFar (p .state))) p ∙ ap (λ (s : PortState). withBits s (marksOf p)) (state-again (p .state))
 
 pub port-size : (p : Port) → length (portBytes p) ≡ 4
 unfolding portBytes

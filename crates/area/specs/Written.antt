@@ -5,13 +5,10 @@ use mathlib.Core.List.{List, [], _∷_, _++_}
 use mathlib.Core.Bool.{Bool, cond, _&&_}
 use lib.ListN.{length, take, drop}
 use lib.Dec.{eqb, leb}
-use Rattle.port.specs.declared.Speed.{Speed}
-use Rattle.port.specs.declared.Speed.the-variants.{Low, Full, High}
-use Rattle.port.specs.declared.PortState.{PortState}
-use Rattle.port.specs.declared.PortState.the-variants.{NotConfigured, PoweredOff, Disconnected, Disabled, Resetting, Enabled, Suspended, Resuming}
 use Rattle.port.specs.declared.Port.{Port}
 use Rattle.bools.specs.Bit.{bit}
 use Rattle.port.specs.Status.{byteOf}
+use Rattle.port.specs.Numbers.{stateNumber, stateSpeed, ticksSoFar}
 use Rattle.buffer.specs.declared.Lane.the-variants.{One}
 use Rattle.buffer.specs.declared.StartSplit.{StartSplit}
 use Rattle.buffer.specs.declared.Slot.{Slot}
@@ -28,45 +25,6 @@ use Rattle.payload.specs.Bytes.{flat}
 
 -- ---- a port, 4 bytes
 
--- 0 Not Configured, 1 Powered-off, 2 Disconnected, 3 Disabled, 4 Resetting, 5 Enabled, 6 Suspended, 7 Resuming
-abbrev pub stateByte : PortState → ℕ
-stateByte NotConfigured = 0
-stateByte PoweredOff = 1
-stateByte Disconnected = 2
-stateByte (Disabled v) = 3
-stateByte (Resetting v t) = 4
-stateByte (Enabled v) = 5
-stateByte (Suspended v) = 6
-stateByte (Resuming v t) = 7
-
--- 0 low, 1 full, 2 high
-abbrev pub speedNumber : Speed → ℕ
-speedNumber Low = 0
-speedNumber Full = 1
-speedNumber High = 2
-
--- the speed, 0 in a state without one
-abbrev pub speedByte : PortState → ℕ
-speedByte NotConfigured = 0
-speedByte PoweredOff = 0
-speedByte Disconnected = 0
-speedByte (Disabled v) = speedNumber v
-speedByte (Resetting v t) = speedNumber v
-speedByte (Enabled v) = speedNumber v
-speedByte (Suspended v) = speedNumber v
-speedByte (Resuming v t) = speedNumber v
-
--- the ticks so far, 0 in a state without a timer
-abbrev pub ticksByte : PortState → ℕ
-ticksByte NotConfigured = 0
-ticksByte PoweredOff = 0
-ticksByte Disconnected = 0
-ticksByte (Disabled v) = 0
-ticksByte (Resetting v t) = t
-ticksByte (Enabled v) = 0
-ticksByte (Suspended v) = 0
-ticksByte (Resuming v t) = t
-
 -- bit 0 C_PORT_CONNECTION, 1 C_PORT_ENABLE, 2 C_PORT_SUSPEND, 3 C_PORT_OVER_CURRENT, 4 C_PORT_RESET, 5 the over-current level
 abbrev pub marksByte : Port → ℕ
 marksByte p =
@@ -75,7 +33,7 @@ marksByte p =
 
 -- byte 0 state, 1 speed, 2 ticks, 3 marks
 unfoldable pub portBytes : Port → List ℕ
-portBytes p = stateByte (p .state) ∷ speedByte (p .state) ∷ ticksByte (p .state) ∷ marksByte p ∷ []
+portBytes p = stateNumber (p .state) ∷ stateSpeed (p .state) ∷ ticksSoFar (p .state) ∷ marksByte p ∷ []
 
 -- ---- a buffer, 72 bytes
 

@@ -7,8 +7,8 @@ ghost use Rattle.bools.specs.Bit.{bit};
 ghost use Rattle.port.specs.Status.{byteOf};
 ghost use Rattle.numbers.specs.Named.{pidFrom, typeFrom, resultFrom};
 ghost use Rattle.payload.specs.Bytes.{flat};
-ghost use Rattle.area.specs.Written.{stateByte, speedNumber, speedByte, ticksByte, marksByte, portBytes, heldBytes, slotBytes, bufferBytes, lowByte, runningByte, headBytes, bufferPut, areaLength, writtenOver};
-ghost use Rattle.area_check.specs.Read.{speedOf, stateOf, markedPort, portOf, heldSplit, slotOf, bufferOf, lowOf, portsOf, buffersOf, decoded};
+ghost use Rattle.area.specs.Written.{marksByte, portBytes, heldBytes, slotBytes, bufferBytes, lowByte, runningByte, headBytes, bufferPut, areaLength, writtenOver};
+ghost use Rattle.area_check.specs.Read.{markedPort, portOf, heldSplit, slotOf, bufferOf, lowOf, portsOf, buffersOf, decoded};
 ghost use Rattle.area.specs.Read.{bufferFrom, refusal, readOf};
 ghost use Rattle.area.specs.Claims.{AreaExact};
 ghost use Rattle.area.specs.Cases.{ValidCases};
@@ -28,7 +28,6 @@ use payload::Payload;
 use port::Changes;
 use port::Port;
 use port::PortState;
-use port::Speed;
 use translator::LowSide;
 use translator::Translator;
 
@@ -54,31 +53,6 @@ fn lesser(a: usize, b: usize) -> usize
 }
 
 // ---- one port, 4 bytes
-
-fn speed_of(n: u8) -> Speed
-    ensures { λ r. ⌜ r ≡ speedOf n ⌝ }
-{
-    match n {
-        1 => Speed::Full,
-        2 => Speed::High,
-        _ => Speed::Low,
-    }
-}
-
-fn state_of(n: u8, speed: Speed, ticks: u8) -> PortState
-    ensures { λ r. ⌜ r ≡ stateOf n speed ticks ⌝ }
-{
-    match n {
-        1 => PortState::PoweredOff,
-        2 => PortState::Disconnected,
-        3 => PortState::Disabled(speed),
-        4 => PortState::Resetting(speed, ticks),
-        5 => PortState::Enabled(speed),
-        6 => PortState::Suspended(speed),
-        7 => PortState::Resuming(speed, ticks),
-        _ => PortState::NotConfigured,
-    }
-}
 
 fn marked_port(state: PortState, m: u8) -> Port
     ensures { λ r. ⌜ r ≡ markedPort state m ⌝ }
@@ -106,63 +80,8 @@ fn port_of(b: &[u8]) -> Port
     requires { ⌜ length (now b) ≡ 4 ⌝ }
     ensures { λ r. ⌜ r ≡ portOf (now (b .entry)) ⌝ }
 {
-    let state = state_of(b[0], speed_of(b[1]), b[2]);
+    let state = port::state_of(b[0], port::speed_of(b[1]), b[2]);
     marked_port(state, b[3])
-}
-
-fn state_byte(s: PortState) -> u8
-    ensures { λ r. ⌜ r ≡ stateByte s ⌝ }
-{
-    match s {
-        PortState::NotConfigured => 0,
-        PortState::PoweredOff => 1,
-        PortState::Disconnected => 2,
-        PortState::Disabled(_) => 3,
-        PortState::Resetting(_, _) => 4,
-        PortState::Enabled(_) => 5,
-        PortState::Suspended(_) => 6,
-        PortState::Resuming(_, _) => 7,
-    }
-}
-
-fn speed_number(v: Speed) -> u8
-    ensures { λ r. ⌜ r ≡ speedNumber v ⌝ }
-{
-    match v {
-        Speed::Low => 0,
-        Speed::Full => 1,
-        Speed::High => 2,
-    }
-}
-
-fn speed_byte(s: PortState) -> u8
-    ensures { λ r. ⌜ r ≡ speedByte s ⌝ }
-{
-    match s {
-        PortState::NotConfigured => 0,
-        PortState::PoweredOff => 0,
-        PortState::Disconnected => 0,
-        PortState::Disabled(v) => speed_number(v),
-        PortState::Resetting(v, _) => speed_number(v),
-        PortState::Enabled(v) => speed_number(v),
-        PortState::Suspended(v) => speed_number(v),
-        PortState::Resuming(v, _) => speed_number(v),
-    }
-}
-
-fn ticks_byte(s: PortState) -> u8
-    ensures { λ r. ⌜ r ≡ ticksByte s ⌝ }
-{
-    match s {
-        PortState::NotConfigured => 0,
-        PortState::PoweredOff => 0,
-        PortState::Disconnected => 0,
-        PortState::Disabled(_) => 0,
-        PortState::Resetting(_, t) => t,
-        PortState::Enabled(_) => 0,
-        PortState::Suspended(_) => 0,
-        PortState::Resuming(_, t) => t,
-    }
 }
 
 fn marks_byte(p: Port) -> u8
@@ -180,7 +99,7 @@ fn port_bytes(p: Port) -> [u8; 4]
     ensures { λ r. ⌜ r ≡ portBytes p ⌝ }
 {
     let s = p.state;
-    [state_byte(s), speed_byte(s), ticks_byte(s), marks_byte(p)]
+    [s.number(), s.speed(), s.ticks(), marks_byte(p)]
 }
 
 // ---- one buffer, 72 bytes

@@ -5,11 +5,9 @@ use mathlib.Core.List.{List, [], _∷_, _++_}
 use mathlib.Core.Bool.{Bool, true, false, cond, not, _&&_, _||_}
 use lib.ListN.{length, getD, take, drop, replicate}
 use lib.Dec.{eqb, leb, ltb}
-use Rattle.port.specs.declared.Speed.{Speed}
-use Rattle.port.specs.declared.Speed.the-variants.{Low, Full, High}
 use Rattle.port.specs.declared.PortState.{PortState}
-use Rattle.port.specs.declared.PortState.the-variants.{NotConfigured, PoweredOff, Disconnected, Disabled, Resetting, Enabled, Suspended, Resuming}
 use Rattle.port.specs.declared.Port.{Port}
+use Rattle.port.specs.FromNumbers.{speedOf, stateOf, endOf}
 use Rattle.ports.specs.Ports.{newPorts}
 use Rattle.buffer.specs.declared.Lane.{Lane}
 use Rattle.buffer.specs.declared.Lane.the-variants.{Zero, One}
@@ -33,19 +31,6 @@ abbrev pub isOdd : ℕ → Bool
 isOdd n = eqb (n % 2) 1
 
 -- ---- what bytes stand for, if they stand for anything
-
-abbrev pub speedOf : ℕ → Speed
-speedOf n = cond (eqb n 1) Full (cond (eqb n 2) High Low)
-
-abbrev pub stateOf : ℕ → Speed → ℕ → PortState
-stateOf n v t =
-    cond (eqb n 1) PoweredOff
-    (cond (eqb n 2) Disconnected
-    (cond (eqb n 3) (Disabled v)
-    (cond (eqb n 4) (Resetting v t)
-    (cond (eqb n 5) (Enabled v)
-    (cond (eqb n 6) (Suspended v)
-    (cond (eqb n 7) (Resuming v t) NotConfigured))))))
 
 -- a port with these marks
 unfoldable pub markedPort : PortState → ℕ → Port
@@ -133,10 +118,6 @@ decoded a =
 -- the speeds that a state's number goes with are those below this
 abbrev pub speedsOf : ℕ → ℕ
 speedsOf n = cond (ltb n 3) 1 (cond (ltb n 8) 3 0)
-
--- the ticks that a state's number goes with are those below this
-abbrev pub endOf : ℕ → ℕ
-endOf n = cond (eqb n 4) 15 (cond (eqb n 7) 22 1)
 
 -- a port is Not Configured, or else the hub is configured
 abbrev pub agrees : Bool → Bool → Bool

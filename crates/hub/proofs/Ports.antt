@@ -24,15 +24,16 @@ use Rattle.port.specs.Reaction.{Reaction, done, ruled, newPort}
 use Rattle.port.specs.Events.{attach, detach, chirp, wake, portError, overCurrentOn, overCurrentOff, eventRule}
 use Rattle.port.specs.Tick as ticking
 use Rattle.port.specs.Features.{setPower, setReset, setSuspend, clearEnable, clearSuspend, setRule}
-use Rattle.port.specs.Input.{Input, event, tick, setFeature, clearFeature, configure, unconfigure, busReset, after}
-use Rattle.port.specs.Words.{TimerBelowEnd, Among}
+use Rattle.port.specs.declared.Input.{Input}
+use Rattle.port.specs.declared.Input.the-variants as input
+use Rattle.port.specs.Input.{after}
+use Rattle.port.specs.Words.{isNotConfigured, TimerBelowEnd, Among}
 use Rattle.port.proofs.States.{by-state, row, each, next, next-state}
 use Rattle.ports.specs.declared.Sweep.{Sweep}
 use Rattle.ports.specs.Ports.{newPorts, portAt, withPort}
 use Rattle.ports.specs.Sweep.{sweptBy, swept}
 use Rattle.ports.proofs.Front.{drop-front, getD-front}
 use Rattle.ports.proofs.Laws.{at-port, set-port, ports-claims}
-use Rattle.hub.specs.Valid.{isNotConfigured}
 
 -- ---- no rule of a port but SetConfiguration makes it Not Configured
 
@@ -88,25 +89,25 @@ ruled-same : (rule : Bool → PortState → Reaction) → Same rule → (p : Por
 ruled-same rule k p h = rw (next-state p (rule (p .overcurrent) (p .state))) (k (p .overcurrent) (p .state) ∙ h)
 
 abbrev pub NotUnconfigure : Input → Type 0
-NotUnconfigure (event e) = Unit {0}
-NotUnconfigure tick = Unit {0}
-NotUnconfigure (setFeature f) = Unit {0}
-NotUnconfigure (clearFeature f) = Unit {0}
-NotUnconfigure configure = Unit {0}
-NotUnconfigure unconfigure = ⊥
-NotUnconfigure busReset = ⊥
+NotUnconfigure (input.Event e) = Unit {0}
+NotUnconfigure input.Tick = Unit {0}
+NotUnconfigure (input.SetFeature f) = Unit {0}
+NotUnconfigure (input.ClearFeature f) = Unit {0}
+NotUnconfigure input.Configure = Unit {0}
+NotUnconfigure input.Unconfigure = ⊥
+NotUnconfigure input.BusReset = ⊥
 
 pub stays-configured : (p : Port) (i : Input) → NotUnconfigure i → isNotConfigured (p .state) ≡ false → isNotConfigured (after p i .state) ≡ false
-stays-configured p (event e) n h = ruled-same (eventRule e) (event-same e) p h
-stays-configured p tick n h = ruled-same ticking.tick tick-same p h
-stays-configured p (setFeature f) n h = ruled-same (setRule f) (set-same f) p h
-stays-configured p (clearFeature clearable.Enable) n h = ruled-same clearEnable (λ l. rows clearEnable l (λ v t. refl)) p h
-stays-configured p (clearFeature clearable.Suspend) n h = ruled-same clearSuspend (λ l. rows clearSuspend l (λ v t. refl)) p h
-stays-configured p (clearFeature clearable.Power) n h = refl
-stays-configured p (clearFeature (clearable.Change b)) n h = h
-stays-configured p configure n h = refl
-stays-configured p unconfigure n h = absurd n
-stays-configured p busReset n h = absurd n
+stays-configured p (input.Event e) n h = ruled-same (eventRule e) (event-same e) p h
+stays-configured p input.Tick n h = ruled-same ticking.tick tick-same p h
+stays-configured p (input.SetFeature f) n h = ruled-same (setRule f) (set-same f) p h
+stays-configured p (input.ClearFeature clearable.Enable) n h = ruled-same clearEnable (λ l. rows clearEnable l (λ v t. refl)) p h
+stays-configured p (input.ClearFeature clearable.Suspend) n h = ruled-same clearSuspend (λ l. rows clearSuspend l (λ v t. refl)) p h
+stays-configured p (input.ClearFeature clearable.Power) n h = refl
+stays-configured p (input.ClearFeature (clearable.Change b)) n h = h
+stays-configured p input.Configure n h = refl
+stays-configured p input.Unconfigure n h = absurd n
+stays-configured p input.BusReset n h = absurd n
 
 -- ---- seven ports, of which the first n are the hub's
 

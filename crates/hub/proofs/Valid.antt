@@ -8,7 +8,9 @@ use borrow.Author.Tests.{leb-true}
 use Rattle.payload.specs.declared.Payload.{Payload}
 use Rattle.port.specs.declared.Port.{Port}
 use Rattle.port.specs.declared.PortNumber.{PortNumber}
-use Rattle.port.specs.Input.{Input, event, tick, setFeature, clearFeature, after}
+use Rattle.port.specs.declared.Input.{Input}
+use Rattle.port.specs.declared.Input.the-variants as input
+use Rattle.port.specs.Input.{after}
 use Rattle.port.specs.Events.{lineEvent}
 use Rattle.port.proofs.Claimed.{port-claims}
 use Rattle.ports.specs.declared.Sweep.the-variants as sweep
@@ -112,8 +114,8 @@ module _ (h : Hub) (v : ValidHub h) where
   request-valid y GetHubStatus i e = v
   request-valid y (GetPortStatus n) i e = v
   request-valid y ClearHubFeature i e = v
-  request-valid y (ClearPortFeature n f) i e = port-valid (only (h .configured) e) n i (clearFeature f) tt
-  request-valid y (SetPortFeature n f) i e = port-valid (only (h .configured) e) n i (setFeature f) tt
+  request-valid y (ClearPortFeature n f) i e = port-valid (only (h .configured) e) n i (input.ClearFeature f) tt
+  request-valid y (SetPortFeature n f) i e = port-valid (only (h .configured) e) n i (input.SetFeature f) tt
   request-valid y (ClearTTBuffer k) i e = translator-valid _ (translating.clear-valid (h .translator) (v .translator) (keyed y k))
   request-valid y ResetTT i e = translator-valid _ (translating.reset-valid (h .translator) (v .translator) y)
 
@@ -144,7 +146,7 @@ module _ (h : Hub) (v : ValidHub h) where
       go true e =
           made-of (h .configured) _ (h .translator)
           (swept-valid (h .identity .ports) (h .configured) (h .ports) (ports-of h v) (most-of h v) sweep.Tick (h .configured)
-          (λ p t. port-claims .timer-kept p tick t) (λ p c. stays-configured p tick tt (c ∙ ap not e) ∙ ap not (sym e)))
+          (λ p t. port-claims .timer-kept p input.Tick t) (λ p c. stays-configured p input.Tick tt (c ∙ ap not e) ∙ ap not (sym e)))
           (v .translator)
       go false e = v
 
@@ -183,7 +185,7 @@ module _ (h : Hub) (v : ValidHub h) where
       let named = right (isEvent e) (portNamed (h .identity .ports) n) w in
       port-valid h v (left (h .configured) (not (eqb (lineEvent (portAt (h .ports) m) (eventFrom e) .number) 8)) f) m
       (leb-true 1 n (left (leb 1 n) (leb n (h .identity .ports)) named), leb-true n (h .identity .ports) (right (leb 1 n) (leb n (h .identity .ports)) named))
-      (event (eventFrom e)) tt
+      (input.Event (eventFrom e)) tt
   served-valid Tick w f = ticked-valid h v
   served-valid BusReset w f = reset-valid h v
 

@@ -1,26 +1,14 @@
 -- Which hubs are valid: those whose written form a call takes. A reader must believe: document 01's list and no more.
 use Prim.Native.Nat.{ℕ, _≤_, _<_}
 use mathlib.Core.Path.{_≡_}
-use mathlib.Core.Bool.{Bool, true, false, not}
+use mathlib.Core.Bool.{true, not}
 use lib.ListN.{length, getD}
 use Rattle.port.specs.declared.Port.{Port}
-use Rattle.port.specs.declared.PortState.{PortState}
-use Rattle.port.specs.declared.PortState.the-variants.{NotConfigured, PoweredOff, Disconnected, Disabled, Resetting, Enabled, Suspended, Resuming}
 use Rattle.port.specs.Reaction.{newPort}
-use Rattle.port.specs.Words.{TimerBelowEnd}
+use Rattle.port.specs.Words.{isNotConfigured, TimerBelowEnd}
 use Rattle.translator.specs.Valid.{ValidTranslator}
 use Rattle.hub.specs.declared.Hub.{Hub}
 use Rattle.hub.specs.Hub.{newFits}
-
-abbrev pub isNotConfigured : PortState → Bool
-isNotConfigured NotConfigured = true
-isNotConfigured PoweredOff = false
-isNotConfigured Disconnected = false
-isNotConfigured (Disabled s) = false
-isNotConfigured (Resetting s t) = false
-isNotConfigured (Enabled s) = false
-isNotConfigured (Suspended s) = false
-isNotConfigured (Resuming s t) = false
 
 -- the port with this index, from 0 on
 abbrev pub portIndexed : Hub → ℕ → Port

@@ -4,7 +4,7 @@ ghost use mathlib.Core.Path.{_≡_};
 ghost use Prim.Native.Nat.{_+_, _≤_, _^_, min};
 ghost use Rattle.payload.specs.Payload.{content};
 ghost use lib.ListN.{take};
-ghost use Rattle.port.specs.Method.{numberOf, answered};
+ghost use Rattle.port.specs.Method.{answered};
 ghost use Rattle.port.specs.Status.{statusBytes};
 ghost use Rattle.ports.specs.Ports.{portAt};
 ghost use Rattle.ports.specs.Sweep.{swept};
@@ -28,7 +28,6 @@ use port::Port;
 use port::PortCount;
 use port::PortNumber;
 use port::SettableFeature;
-use port::StepAnswer;
 use ports::Sweep;
 use request::Pipe;
 use request::Request;
@@ -290,7 +289,7 @@ impl Hub {
     {
         let next = o.port;
         let said = o.answer;
-        answer(self.with_port(n, next), step_answer(said))
+        answer(self.with_port(n, next), said.number())
     }
 
     fn sweep(self, what: Sweep) -> [Port; 7]
@@ -653,15 +652,6 @@ impl Hub {
             translator: translator.empty(),
         };
         done(hub)
-    }
-}
-
-fn step_answer(answer: StepAnswer) -> u8
-    ensures { λ r. ⌜ r ≡ numberOf answer ⌝ }
-{
-    match answer {
-        StepAnswer::Done => 0,
-        StepAnswer::NotInThisState => 8,
     }
 }
 

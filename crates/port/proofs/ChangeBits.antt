@@ -15,7 +15,9 @@ use Rattle.port.specs.Reaction.{Reaction, refused, done, mark, marked, r
 use Rattle.port.specs.Events.{eventRule}
 use Rattle.port.specs.Tick as ticking
 use Rattle.port.specs.Features.{setRule, clearEnable, clearSuspend, clearedBit}
-use Rattle.port.specs.Input.{Input, event, tick, setFeature, clearFeature, configure, unconfigure, busReset, after}
+use Rattle.port.specs.declared.Input.{Input}
+use Rattle.port.specs.declared.Input.the-variants as input
+use Rattle.port.specs.Input.{after}
 use Rattle.port.specs.Words.{changeBit}
 
 pub by-bit : (P : ChangeBit → Type 0) → P Connection → P Enable → P Suspend → P OverCurrent → P Reset → (b : ChangeBit) → P b
@@ -62,18 +64,18 @@ cleared b c = by-bit (λ b. changeBit b (clearedBit b c) ≡ false) refl refl re
 pub none-set : (b : ChangeBit) → changeBit b noChanges ≡ false
 none-set b = by-bit (λ b. changeBit b noChanges ≡ false) refl refl refl refl refl b
 
-pub change-stays : (b : ChangeBit) (p : Port) (i : Input) → ¬ (i ≡ clearFeature (clearable.Change b)) → ¬ (i ≡ busReset)
+pub change-stays : (b : ChangeBit) (p : Port) (i : Input) → ¬ (i ≡ input.ClearFeature (clearable.Change b)) → ¬ (i ≡ input.BusReset)
     → Stays (p .changes) (after p i .changes) b
-change-stays b p (event e) n r h = ruled-stays (eventRule e) p b h
-change-stays b p tick n r h = ruled-stays ticking.tick p b h
-change-stays b p (setFeature f) n r h = ruled-stays (setRule f) p b h
-change-stays b p (clearFeature clearable.Enable) n r h = ruled-stays clearEnable p b h
-change-stays b p (clearFeature clearable.Suspend) n r h = ruled-stays clearSuspend p b h
-change-stays b p (clearFeature clearable.Power) n r h = h
-change-stays b p (clearFeature (clearable.Change x)) n r h = rw (others-kept x b (p .changes) (λ e. n (cc))) h
-change-stays b p configure n r h = h
-change-stays b p unconfigure n r h = h
-change-stays b p busReset n r h = absurd (r refl)
+change-stays b p (input.Event e) n r h = ruled-stays (eventRule e) p b h
+change-stays b p input.Tick n r h = ruled-stays ticking.tick p b h
+change-stays b p (input.SetFeature f) n r h = ruled-stays (setRule f) p b h
+change-stays b p (input.ClearFeature clearable.Enable) n r h = ruled-stays clearEnable p b h
+change-stays b p (input.ClearFeature clearable.Suspend) n r h = ruled-stays clearSuspend p b h
+change-stays b p (input.ClearFeature clearable.Power) n r h = h
+change-stays b p (input.ClearFeature (clearable.Change x)) n r h = rw (others-kept x b (p .changes) (λ e. n (cc))) h
+change-stays b p input.Configure n r h = h
+change-stays b p input.Unconfigure n r h = h
+change-stays b p input.BusReset n r h = absurd (r refl)
 
 pub answers : (p : Port) (r : Reaction) → (reacted p r .number ≡ 0) ⊎ (reacted p r .number ≡ 8)
 answers p refused = inr refl

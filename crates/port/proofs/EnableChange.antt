@@ -23,7 +23,9 @@ use Rattle.port.specs.Reaction.{Reaction, refused, done, marked, reacted
 use Rattle.port.specs.Events.{attach, detach, chirp, wake, portError, overCurrentOn, overCurrentOff, eventRule}
 use Rattle.port.specs.Tick as ticking
 use Rattle.port.specs.Features.{setPower, setReset, setSuspend, clearEnable, clearSuspend, setRule}
-use Rattle.port.specs.Input.{Input, event, tick, setFeature, clearFeature, configure, unconfigure, busReset, after}
+use Rattle.port.specs.declared.Input.{Input}
+use Rattle.port.specs.declared.Input.the-variants as input
+use Rattle.port.specs.Input.{after}
 use Rattle.port.specs.Claims.{ErrorWhileEnabled, EnableChange}
 use Rattle.port.proofs.States.{by-state, by-bool, row, each}
 
@@ -97,39 +99,39 @@ suspend-quiet c l = still clearSuspend c l (λ v t. refl)
 -- ---- an input that is neither a port error nor clears C_PORT_ENABLE keeps it
 
 abbrev pub keeps : Input → Bool
-keeps (event e) = not (isError e)
-keeps tick = true
-keeps (setFeature f) = true
-keeps (clearFeature clearable.Enable) = true
-keeps (clearFeature clearable.Suspend) = true
-keeps (clearFeature clearable.Power) = true
-keeps (clearFeature (clearable.Change bit.Connection)) = true
-keeps (clearFeature (clearable.Change bit.Enable)) = false
-keeps (clearFeature (clearable.Change bit.Suspend)) = true
-keeps (clearFeature (clearable.Change bit.OverCurrent)) = true
-keeps (clearFeature (clearable.Change bit.Reset)) = true
-keeps configure = true
-keeps unconfigure = true
-keeps busReset = false
+keeps (input.Event e) = not (isError e)
+keeps input.Tick = true
+keeps (input.SetFeature f) = true
+keeps (input.ClearFeature clearable.Enable) = true
+keeps (input.ClearFeature clearable.Suspend) = true
+keeps (input.ClearFeature clearable.Power) = true
+keeps (input.ClearFeature (clearable.Change bit.Connection)) = true
+keeps (input.ClearFeature (clearable.Change bit.Enable)) = false
+keeps (input.ClearFeature (clearable.Change bit.Suspend)) = true
+keeps (input.ClearFeature (clearable.Change bit.OverCurrent)) = true
+keeps (input.ClearFeature (clearable.Change bit.Reset)) = true
+keeps input.Configure = true
+keeps input.Unconfigure = true
+keeps input.BusReset = false
 
 at-port : (rule : Bool → PortState → Reaction) → Quiet rule → (p : Port) → ruled rule p .port .changes .enable ≡ p .changes .enable
 at-port rule q p = bit-after p (rule (p .overcurrent) (p .state)) ∙ q (p .changes) (p .overcurrent) (p .state)
 
 pub enable-kept : (p : Port) (i : Input) → keeps i ≡ true → after p i .changes .enable ≡ p .changes .enable
-enable-kept p (event e) k = at-port (eventRule e) (event-quiet e (not-true (isError e) k)) p
-enable-kept p tick k = at-port ticking.tick tick-quiet p
-enable-kept p (setFeature f) k = at-port (setRule f) (set-quiet f) p
-enable-kept p (clearFeature clearable.Enable) k = at-port clearEnable enable-quiet p
-enable-kept p (clearFeature clearable.Suspend) k = at-port clearSuspend suspend-quiet p
-enable-kept p (clearFeature clearable.Power) k = refl
-enable-kept p (clearFeature (clearable.Change bit.Connection)) k = refl
-enable-kept p (clearFeature (clearable.Change bit.Enable)) k = never k
-enable-kept p (clearFeature (clearable.Change bit.Suspend)) k = refl
-enable-kept p (clearFeature (clearable.Change bit.OverCurrent)) k = refl
-enable-kept p (clearFeature (clearable.Change bit.Reset)) k = refl
-enable-kept p configure k = refl
-enable-kept p unconfigure k = refl
-enable-kept p busReset k = never k
+enable-kept p (input.Event e) k = at-port (eventRule e) (event-quiet e (not-true (isError e) k)) p
+enable-kept p input.Tick k = at-port ticking.tick tick-quiet p
+enable-kept p (input.SetFeature f) k = at-port (setRule f) (set-quiet f) p
+enable-kept p (input.ClearFeature clearable.Enable) k = at-port clearEnable enable-quiet p
+enable-kept p (input.ClearFeature clearable.Suspend) k = at-port clearSuspend suspend-quiet p
+enable-kept p (input.ClearFeature clearable.Power) k = refl
+enable-kept p (input.ClearFeature (clearable.Change bit.Connection)) k = refl
+enable-kept p (input.ClearFeature (clearable.Change bit.Enable)) k = never k
+enable-kept p (input.ClearFeature (clearable.Change bit.Suspend)) k = refl
+enable-kept p (input.ClearFeature (clearable.Change bit.OverCurrent)) k = refl
+enable-kept p (input.ClearFeature (clearable.Change bit.Reset)) k = refl
+enable-kept p input.Configure k = refl
+enable-kept p input.Unconfigure k = refl
+enable-kept p input.BusReset k = never k
 
 -- ---- a port error
 
@@ -153,7 +155,7 @@ errs p z =
     off : {s : PortState} → isEnabled s ≡ false → (p .changes .enable ≡ true) ↔ ((v : Speed) × (s ≡ Enabled v))
     off n = (λ h. never (sym z ∙ h), λ h. never (sym n ∙ ap isEnabled (h .1)))
 
-by-error : (p : Port) → p .changes .enable ≡ false → (after p (event PortError) .changes .enable ≡ true) ↔ ErrorWhileEnabled p (event PortError)
+by-error : (p : Port) → p .changes .enable ≡ false → (after p (input.Event PortError) .changes .enable ≡ true) ↔ ErrorWhileEnabled p (input.Event PortError)
 by-error p z =
     let r = portError (p .overcurrent) (p .state) in
     let w = errs p z (p .state) in (
@@ -162,13 +164,13 @@ by-error p z =
     )
 
 abbrev pub isPortError : Input → Bool
-isPortError (event e) = isError e
-isPortError tick = false
-isPortError (setFeature f) = false
-isPortError (clearFeature f) = false
-isPortError configure = false
-isPortError unconfigure = false
-isPortError busReset = false
+isPortError (input.Event e) = isError e
+isPortError input.Tick = false
+isPortError (input.SetFeature f) = false
+isPortError (input.ClearFeature f) = false
+isPortError input.Configure = false
+isPortError input.Unconfigure = false
+isPortError input.BusReset = false
 
 pub enable-change : EnableChange after
 enable-change p i z = go i
@@ -180,24 +182,24 @@ enable-change p i z = go i
     kept i n k = unset i n (enable-kept p i k ∙ z)
 
     go : (i : Input) → (after p i .changes .enable ≡ true) ↔ ErrorWhileEnabled p i
-    go (event AttachLow) = kept (event AttachLow) refl refl
-    go (event AttachFull) = kept (event AttachFull) refl refl
-    go (event Detach) = kept (event Detach) refl refl
-    go (event Chirp) = kept (event Chirp) refl refl
-    go (event Wake) = kept (event Wake) refl refl
-    go (event PortError) = by-error p z
-    go (event OverCurrentOn) = kept (event OverCurrentOn) refl refl
-    go (event OverCurrentOff) = kept (event OverCurrentOff) refl refl
-    go tick = kept tick refl refl
-    go (setFeature f) = kept (setFeature f) refl refl
-    go (clearFeature clearable.Enable) = kept (clearFeature clearable.Enable) refl refl
-    go (clearFeature clearable.Suspend) = kept (clearFeature clearable.Suspend) refl refl
-    go (clearFeature clearable.Power) = kept (clearFeature clearable.Power) refl refl
-    go (clearFeature (clearable.Change bit.Connection)) = kept (clearFeature (clearable.Change bit.Connection)) refl refl
-    go (clearFeature (clearable.Change bit.Enable)) = unset (clearFeature (clearable.Change bit.Enable)) refl refl
-    go (clearFeature (clearable.Change bit.Suspend)) = kept (clearFeature (clearable.Change bit.Suspend)) refl refl
-    go (clearFeature (clearable.Change bit.OverCurrent)) = kept (clearFeature (clearable.Change bit.OverCurrent)) refl refl
-    go (clearFeature (clearable.Change bit.Reset)) = kept (clearFeature (clearable.Change bit.Reset)) refl refl
-    go configure = kept configure refl refl
-    go unconfigure = kept unconfigure refl refl
-    go busReset = unset busReset refl refl
+    go (input.Event AttachLow) = kept (input.Event AttachLow) refl refl
+    go (input.Event AttachFull) = kept (input.Event AttachFull) refl refl
+    go (input.Event Detach) = kept (input.Event Detach) refl refl
+    go (input.Event Chirp) = kept (input.Event Chirp) refl refl
+    go (input.Event Wake) = kept (input.Event Wake) refl refl
+    go (input.Event PortError) = by-error p z
+    go (input.Event OverCurrentOn) = kept (input.Event OverCurrentOn) refl refl
+    go (input.Event OverCurrentOff) = kept (input.Event OverCurrentOff) refl refl
+    go input.Tick = kept input.Tick refl refl
+    go (input.SetFeature f) = kept (input.SetFeature f) refl refl
+    go (input.ClearFeature clearable.Enable) = kept (input.ClearFeature clearable.Enable) refl refl
+    go (input.ClearFeature clearable.Suspend) = kept (input.ClearFeature clearable.Suspend) refl refl
+    go (input.ClearFeature clearable.Power) = kept (input.ClearFeature clearable.Power) refl refl
+    go (input.ClearFeature (clearable.Change bit.Connection)) = kept (input.ClearFeature (clearable.Change bit.Connection)) refl refl
+    go (input.ClearFeature (clearable.Change bit.Enable)) = unset (input.ClearFeature (clearable.Change bit.Enable)) refl refl
+    go (input.ClearFeature (clearable.Change bit.Suspend)) = kept (input.ClearFeature (clearable.Change bit.Suspend)) refl refl
+    go (input.ClearFeature (clearable.Change bit.OverCurrent)) = kept (input.ClearFeature (clearable.Change bit.OverCurrent)) refl refl
+    go (input.ClearFeature (clearable.Change bit.Reset)) = kept (input.ClearFeature (clearable.Change bit.Reset)) refl refl
+    go input.Configure = kept input.Configure refl refl
+    go input.Unconfigure = kept input.Unconfigure refl refl
+    go input.BusReset = unset input.BusReset refl refl

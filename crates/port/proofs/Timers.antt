@@ -22,7 +22,9 @@ use Rattle.port.specs.Reaction.{Reaction, done, ruled}
 use Rattle.port.specs.Events.{attach, detach, chirp, wake, portError, overCurrentOn, overCurrentOff, eventRule}
 use Rattle.port.specs.Tick as ticking
 use Rattle.port.specs.Features.{setPower, setReset, setSuspend, clearEnable, clearSuspend, setRule}
-use Rattle.port.specs.Input.{Input, event, tick, setFeature, clearFeature, configure, unconfigure, busReset, after}
+use Rattle.port.specs.declared.Input.{Input}
+use Rattle.port.specs.declared.Input.the-variants as input
+use Rattle.port.specs.Input.{after}
 use Rattle.port.specs.Words.{TimerBelowEnd}
 use Rattle.port.proofs.States.{by-state, next, next-state}
 
@@ -86,13 +88,13 @@ at-port : (rule : Bool → PortState → Reaction) → Kept rule → (p : Port) 
 at-port rule k p h = rw (next-state p (rule (p .overcurrent) (p .state))) (k (p .overcurrent) (p .state) h)
 
 pub timer-kept : (p : Port) (i : Input) → TimerBelowEnd (p .state) → TimerBelowEnd (after p i .state)
-timer-kept p (event e) h = at-port (eventRule e) (event-kept e) p h
-timer-kept p tick h = at-port ticking.tick tick-kept p h
-timer-kept p (setFeature f) h = at-port (setRule f) (set-kept f) p h
-timer-kept p (clearFeature clearable.Enable) h = at-port clearEnable enable-kept p h
-timer-kept p (clearFeature clearable.Suspend) h = at-port clearSuspend suspend-kept p h
-timer-kept p (clearFeature clearable.Power) h = tt
-timer-kept p (clearFeature (clearable.Change b)) h = h
-timer-kept p configure h = tt
-timer-kept p unconfigure h = tt
-timer-kept p busReset h = tt
+timer-kept p (input.Event e) h = at-port (eventRule e) (event-kept e) p h
+timer-kept p input.Tick h = at-port ticking.tick tick-kept p h
+timer-kept p (input.SetFeature f) h = at-port (setRule f) (set-kept f) p h
+timer-kept p (input.ClearFeature clearable.Enable) h = at-port clearEnable enable-kept p h
+timer-kept p (input.ClearFeature clearable.Suspend) h = at-port clearSuspend suspend-kept p h
+timer-kept p (input.ClearFeature clearable.Power) h = tt
+timer-kept p (input.ClearFeature (clearable.Change b)) h = h
+timer-kept p input.Configure h = tt
+timer-kept p input.Unconfigure h = tt
+timer-kept p input.BusReset h = tt

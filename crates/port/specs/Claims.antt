@@ -14,12 +14,14 @@ use Rattle.port.specs.declared.ClearableFeature.the-variants.{Change}
 use Rattle.port.specs.Reaction.{newPort}
 use Rattle.port.specs.Events.{lineEvent}
 use Rattle.port.specs.Status.{statusBits, statusBytes}
-use Rattle.port.specs.Input.{Input, event, clearFeature, busReset, after}
+use Rattle.port.specs.declared.Input.{Input}
+use Rattle.port.specs.declared.Input.the-variants as input
+use Rattle.port.specs.Input.{after}
 use Rattle.port.specs.Words.{TimerBelowEnd, bitsOf, changeBit, NamedIn}
 
 -- a port error on an Enabled port, at any speed
 pub record ErrorWhileEnabled (p : Port) (i : Input) : Type 0 where
-  pub port-error : i ≡ event PortError
+  pub port-error : i ≡ input.Event PortError
   pub speed : Speed
   pub enabled : p .state ≡ Enabled speed
 
@@ -39,13 +41,13 @@ pub record PortClaims : Type 0 where
   pub event-done : (p : Port) (e : LineEvent) → (lineEvent p e .number ≡ 0) ↔ NamedIn e (p .state)
   pub refused-unchanged : (p : Port) (e : LineEvent) → lineEvent p e .number ≡ 8 → lineEvent p e .port ≡ p
   -- Change bits stay until cleared by request or bus reset
-  pub change-stays : (b : ChangeBit) (p : Port) (i : Input) → ¬ (i ≡ clearFeature (Change b)) → ¬ (i ≡ busReset)
+  pub change-stays : (b : ChangeBit) (p : Port) (i : Input) → ¬ (i ≡ input.ClearFeature (Change b)) → ¬ (i ≡ input.BusReset)
       → changeBit b (p .changes) ≡ true → changeBit b (after p i .changes) ≡ true
-  pub change-cleared : (b : ChangeBit) (p : Port) → changeBit b (after p (clearFeature (Change b)) .changes) ≡ false
-  pub all-cleared : (b : ChangeBit) (p : Port) → changeBit b (after p busReset .changes) ≡ false
+  pub change-cleared : (b : ChangeBit) (p : Port) → changeBit b (after p (input.ClearFeature (Change b)) .changes) ≡ false
+  pub all-cleared : (b : ChangeBit) (p : Port) → changeBit b (after p input.BusReset .changes) ≡ false
   pub others-kept : (b x : ChangeBit) (p : Port) → ¬ (x ≡ b)
-      → changeBit x (after p (clearFeature (Change b)) .changes) ≡ changeBit x (p .changes)
-  pub state-kept : (b : ChangeBit) (p : Port) → after p (clearFeature (Change b)) .state ≡ p .state
-  pub level-kept : (b : ChangeBit) (p : Port) → after p (clearFeature (Change b)) .overcurrent ≡ p .overcurrent
+      → changeBit x (after p (input.ClearFeature (Change b)) .changes) ≡ changeBit x (p .changes)
+  pub state-kept : (b : ChangeBit) (p : Port) → after p (input.ClearFeature (Change b)) .state ≡ p .state
+  pub level-kept : (b : ChangeBit) (p : Port) → after p (input.ClearFeature (Change b)) .overcurrent ≡ p .overcurrent
   -- C-12 (USB 2.0, 11.24.2.7.2.2): C_PORT_ENABLE is set for a port error alone
   pub enable-change : EnableChange after

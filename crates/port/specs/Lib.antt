@@ -6,6 +6,8 @@ pub mod Features
 pub mod Configuration
 pub mod Status
 pub mod Input
+pub mod Numbers
+pub mod FromNumbers
 pub mod Words
 pub mod Claims
 pub mod Mistakes

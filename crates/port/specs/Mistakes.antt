@@ -9,7 +9,9 @@ use Rattle.port.specs.declared.Port.{Port}
 use Rattle.port.specs.declared.LineEvent.the-variants.{AttachLow, AttachFull, Detach, Chirp, Wake, PortError, OverCurrentOn, OverCurrentOff}
 use Rattle.port.specs.Reaction.{mark}
 use Rattle.port.specs.Status.{portEnable, portReset}
-use Rattle.port.specs.Input.{Input, event, tick, setFeature, clearFeature, configure, unconfigure, busReset, after}
+use Rattle.port.specs.declared.Input.{Input}
+use Rattle.port.specs.declared.Input.the-variants as input
+use Rattle.port.specs.Input.{after}
 use Rattle.port.specs.Claims.{EnableChange}
 
 -- the kinds of input that can end PORT_ENABLE (`reset` is a bus reset), and the rest
@@ -23,20 +25,20 @@ pub data Ending : Type 0 where
   reset : Ending
 
 abbrev pub endingOf : Input → Ending
-endingOf (event AttachLow) = none
-endingOf (event AttachFull) = none
-endingOf (event Detach) = detach
-endingOf (event Chirp) = none
-endingOf (event Wake) = none
-endingOf (event PortError) = portError
-endingOf (event OverCurrentOn) = overCurrent
-endingOf (event OverCurrentOff) = none
-endingOf tick = none
-endingOf (setFeature f) = request
-endingOf (clearFeature f) = request
-endingOf configure = configuration
-endingOf unconfigure = configuration
-endingOf busReset = reset
+endingOf (input.Event AttachLow) = none
+endingOf (input.Event AttachFull) = none
+endingOf (input.Event Detach) = detach
+endingOf (input.Event Chirp) = none
+endingOf (input.Event Wake) = none
+endingOf (input.Event PortError) = portError
+endingOf (input.Event OverCurrentOn) = overCurrent
+endingOf (input.Event OverCurrentOff) = none
+endingOf input.Tick = none
+endingOf (input.SetFeature f) = request
+endingOf (input.ClearFeature f) = request
+endingOf input.Configure = configuration
+endingOf input.Unconfigure = configuration
+endingOf input.BusReset = reset
 
 abbrev pub endingNumber : Ending → ℕ
 endingNumber none = 0

@@ -1,7 +1,7 @@
 -- One port in document 01's words, for claims and validity: by its state, not by the rules. A reader must believe: each says its comment.
 use Prim.Native.Nat.{ℕ, zero, suc, _<_, _≤_, _%_, _/_}
 use mathlib.Core.Path.{_≡_}
-use mathlib.Core.Bool.{Bool}
+use mathlib.Core.Bool.{Bool, true, false}
 use mathlib.Core.List.{List, [], _∷_}
 use mathlib.Core.Logic.{_⊎_}
 use lib.Dec.{eqb}
@@ -19,6 +19,17 @@ use Rattle.port.specs.declared.LineEvent.the-variants.{AttachLow, Attach
 -- port m is one of the first n: N ports .. numbered from 1
 abbrev pub Among : ℕ → PortNumber → Type 0
 Among n m = (1 ≤ m .0) × (m .0 ≤ n)
+
+-- Not Configured, as every port of an unconfigured hub is and none of a configured one
+abbrev pub isNotConfigured : PortState → Bool
+isNotConfigured NotConfigured = true
+isNotConfigured PoweredOff = false
+isNotConfigured Disconnected = false
+isNotConfigured (Disabled s) = false
+isNotConfigured (Resetting s t) = false
+isNotConfigured (Enabled s) = false
+isNotConfigured (Suspended s) = false
+isNotConfigured (Resuming s t) = false
 
 -- has timers below their ends: 15 ticks in Resetting, 22 in Resuming
 abbrev pub TimerBelowEnd : PortState → Type 0

@@ -2,7 +2,8 @@
 ghost use mathlib.Core.Path.{_≡_};
 ghost use mathlib.Core.Bool.{false};
 ghost use mathlib.Core.List.{[], _∷_};
-ghost use Rattle.port.specs.Method.{answered};
+ghost use Prim.Native.Nat.{_≤_};
+ghost use Rattle.port.specs.Method.{numberOf, answered};
 ghost use Rattle.port.specs.Reaction.{newPort, doneWith, ruled};
 ghost use Rattle.port.specs.Events.{
   attach,
@@ -28,6 +29,9 @@ ghost use Rattle.port.specs.Features.{
   featureCleared,
 };
 ghost use Rattle.port.specs.Configuration.{configured, unconfigured};
+ghost use Rattle.port.specs.Input.{steppedBy};
+ghost use Rattle.port.specs.Numbers.{stateNumber, speedNumber, stateSpeed, ticksSoFar};
+ghost use Rattle.port.specs.FromNumbers.{speedOf, stateOf};
 ghost use Rattle.port.specs.Status.{
   isLow,
   isHigh,
@@ -118,6 +122,17 @@ pub enum ClearableFeature {
     Change(ChangeBit),
 }
 
+// All that acts on a port: line events, the 1 ms tick, SetPortFeature and ClearPortFeature, SetConfiguration 1 and 0, bus reset.
+pub enum Input {
+    Event(LineEvent),
+    Tick,
+    SetFeature(SettableFeature),
+    ClearFeature(ClearableFeature),
+    Configure,
+    Unconfigure,
+    BusReset,
+}
+
 // What a step of a port answers; only a line event can be refused.
 pub enum StepAnswer {
     Done,
@@ -146,6 +161,21 @@ impl Port {
             state: PortState::NotConfigured,
             overcurrent: false,
             changes,
+        }
+    }
+
+    // Any input, by the method that it has.
+    pub fn step(self, input: Input) -> Stepped
+        ensures { λ r. ⌜ answered r ≡ steppedBy self input ⌝ }
+    {
+        match input {
+            Input::Event(event) => self.line_event(event),
+            Input::Tick => self.tick(),
+            Input::SetFeature(feature) => self.set_feature(feature),
+            Input::ClearFeature(feature) => self.clear_feature(feature),
+            Input::Configure => self.configure(),
+            Input::Unconfigure => self.unconfigure(),
+            Input::BusReset => done_with(Port::new()),
         }
     }
 
@@ -558,7 +588,105 @@ impl Port {
     }
 }
 
+// A state in numbers, and back.
+impl PortState {
+    pub fn number(self) -> u8
+        ensures { λ r. ⌜ r ≡ stateNumber self ⌝ }
+    {
+        match self {
+            PortState::NotConfigured => 0,
+            PortState::PoweredOff => 1,
+            PortState::Disconnected => 2,
+            PortState::Disabled(_) => 3,
+            PortState::Resetting(_, _) => 4,
+            PortState::Enabled(_) => 5,
+            PortState::Suspended(_) => 6,
+            PortState::Resuming(_, _) => 7,
+        }
+    }
+
+    pub fn speed(self) -> u8
+        ensures { λ r. ⌜ r ≡ stateSpeed self ⌝ }
+    {
+        match self {
+            PortState::NotConfigured => 0,
+            PortState::PoweredOff => 0,
+            PortState::Disconnected => 0,
+            PortState::Disabled(speed) => speed.number(),
+            PortState::Resetting(speed, _) => speed.number(),
+            PortState::Enabled(speed) => speed.number(),
+            PortState::Suspended(speed) => speed.number(),
+            PortState::Resuming(speed, _) => speed.number(),
+        }
+    }
+
+    pub fn ticks(self) -> u8
+        ensures { λ r. ⌜ r ≡ ticksSoFar self ⌝ }
+    {
+        match self {
+            PortState::NotConfigured => 0,
+            PortState::PoweredOff => 0,
+            PortState::Disconnected => 0,
+            PortState::Disabled(_) => 0,
+            PortState::Resetting(_, ticks) => ticks,
+            PortState::Enabled(_) => 0,
+            PortState::Suspended(_) => 0,
+            PortState::Resuming(_, ticks) => ticks,
+        }
+    }
+}
+
+// Not Configured where no state has the number.
+pub fn state_of(n: u8, speed: Speed, ticks: u8) -> PortState
+    ensures { λ r. ⌜ r ≡ stateOf n speed ticks ⌝ }
+{
+    match n {
+        1 => PortState::PoweredOff,
+        2 => PortState::Disconnected,
+        3 => PortState::Disabled(speed),
+        4 => PortState::Resetting(speed, ticks),
+        5 => PortState::Enabled(speed),
+        6 => PortState::Suspended(speed),
+        7 => PortState::Resuming(speed, ticks),
+        _ => PortState::NotConfigured,
+    }
+}
+
+// Low where no speed has the number.
+pub fn speed_of(n: u8) -> Speed
+    ensures { λ r. ⌜ r ≡ speedOf n ⌝ }
+{
+    match n {
+        1 => Speed::Full,
+        2 => Speed::High,
+        _ => Speed::Low,
+    }
+}
+
+impl StepAnswer {
+    // The number of document 01.
+    pub fn number(self) -> u8
+        ensures { λ r. ⌜ r ≡ numberOf self ⌝ }
+    {
+        match self {
+            StepAnswer::Done => 0,
+            StepAnswer::NotInThisState => 8,
+        }
+    }
+}
+
 impl Speed {
+    pub fn number(self) -> u8
+        ensures { λ r. ⌜ r ≡ speedNumber self ⌝ }
+        ensures small { λ r. ⌜ r ≤ 2 ⌝ }
+    {
+        match self {
+            Speed::Low => 0,
+            Speed::Full => 1,
+            Speed::High => 2,
+        }
+    }
+
     // Set PORT_RESET makes a high-speed port full speed.
     fn after_reset(self) -> Speed
         ensures { λ r. ⌜ r ≡ resetSpeed self ⌝ }

@@ -1,15 +1,10 @@
 // Prints what each input does to a port: two sets of change bits, both over-current levels, 24 states, 22 inputs; 2,112 lines.
 use libc::STDOUT_FILENO;
-use port::ChangeBit;
 use port::Changes;
-use port::ClearableFeature;
-use port::LineEvent;
 use port::Port;
 use port::PortState;
-use port::SettableFeature;
 use port::Speed;
 use port::StepAnswer;
-use port::Stepped;
 
 fn say(text: &[u8]) {
     io::write_all(STDOUT_FILENO, text);
@@ -90,8 +85,8 @@ fn say_status(port: Port) {
     say_byte(status[3]);
 }
 
-fn say_input(input: u64) {
-    match input {
+fn say_input(column: usize) {
+    match column {
         0 => say(b"attach low"),
         1 => say(b"attach full"),
         2 => say(b"detach"),
@@ -124,73 +119,13 @@ fn say_answer(answer: StepAnswer) {
     }
 }
 
-fn state_of(number: u64) -> PortState {
-    match number {
-        0 => PortState::NotConfigured,
-        1 => PortState::PoweredOff,
-        2 => PortState::Disconnected,
-        3 => PortState::Disabled(Speed::Low),
-        4 => PortState::Disabled(Speed::Full),
-        5 => PortState::Disabled(Speed::High),
-        6 => PortState::Resetting(Speed::Low, 0),
-        7 => PortState::Resetting(Speed::Low, 14),
-        8 => PortState::Resetting(Speed::Full, 0),
-        9 => PortState::Resetting(Speed::Full, 14),
-        10 => PortState::Resetting(Speed::High, 0),
-        11 => PortState::Resetting(Speed::High, 14),
-        12 => PortState::Enabled(Speed::Low),
-        13 => PortState::Enabled(Speed::Full),
-        14 => PortState::Enabled(Speed::High),
-        15 => PortState::Suspended(Speed::Low),
-        16 => PortState::Suspended(Speed::Full),
-        17 => PortState::Suspended(Speed::High),
-        18 => PortState::Resuming(Speed::Low, 0),
-        19 => PortState::Resuming(Speed::Low, 21),
-        20 => PortState::Resuming(Speed::Full, 0),
-        21 => PortState::Resuming(Speed::Full, 21),
-        22 => PortState::Resuming(Speed::High, 0),
-        _ => PortState::Resuming(Speed::High, 21),
-    }
-}
-
-fn clear_bit(port: Port, bit: ChangeBit) -> Stepped {
-    port.clear_feature(ClearableFeature::Change(bit))
-}
-
-fn after(port: Port, input: u64) -> Stepped {
-    match input {
-        0 => port.line_event(LineEvent::AttachLow),
-        1 => port.line_event(LineEvent::AttachFull),
-        2 => port.line_event(LineEvent::Detach),
-        3 => port.line_event(LineEvent::Chirp),
-        4 => port.line_event(LineEvent::Wake),
-        5 => port.line_event(LineEvent::PortError),
-        6 => port.line_event(LineEvent::OverCurrentOn),
-        7 => port.line_event(LineEvent::OverCurrentOff),
-        8 => port.tick(),
-        9 => port.set_feature(SettableFeature::Suspend),
-        10 => port.set_feature(SettableFeature::Reset),
-        11 => port.set_feature(SettableFeature::Power),
-        12 => port.clear_feature(ClearableFeature::Enable),
-        13 => port.clear_feature(ClearableFeature::Suspend),
-        14 => port.clear_feature(ClearableFeature::Power),
-        15 => clear_bit(port, ChangeBit::Connection),
-        16 => clear_bit(port, ChangeBit::Enable),
-        17 => clear_bit(port, ChangeBit::Suspend),
-        18 => clear_bit(port, ChangeBit::OverCurrent),
-        19 => clear_bit(port, ChangeBit::Reset),
-        20 => port.unconfigure(),
-        _ => port.configure(),
-    }
-}
-
-fn say_line(before: Port, input: u64) {
-    let stepped = after(before, input);
+fn say_line(before: Port, column: usize) {
+    let stepped = before.step(chart::input_at(column));
     let next = stepped.port;
     let answer = stepped.answer;
     say_port(before);
     say(b" | ");
-    say_input(input);
+    say_input(column);
     say(b" | ");
     say_answer(answer);
     say(b" | ");
@@ -201,7 +136,7 @@ fn say_line(before: Port, input: u64) {
 }
 
 // Line n, from 0: the input changes fastest, then the state, the level and the change bits.
-fn line(n: u64) {
+fn line(n: usize) {
     let set = n / 1056 == 1;
     let changes = Changes {
         connection: set,
@@ -210,17 +145,18 @@ fn line(n: u64) {
         overcurrent: set,
         reset: set,
     };
-    let state = state_of(n / 22 % 24);
+    let port = chart::port_at(n / 22 % 48);
+    let state = port.state;
     let before = Port {
         state,
-        overcurrent: n / 528 % 2 == 1,
+        overcurrent: port.overcurrent,
         changes,
     };
     say_line(before, n % 22);
 }
 
 fn main() {
-    let mut n: u64 = 0;
+    let mut n: usize = 0;
     while n < 2112 {
         line(n);
         n += 1;

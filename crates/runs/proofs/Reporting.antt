@@ -18,7 +18,9 @@ use Rattle.port.specs.declared.ClearableFeature.the-variants as clearable
 use Rattle.port.specs.Reaction.{reacted}
 use Rattle.port.specs.Events.{portError, lineEvent}
 use Rattle.port.specs.Status.{changeLow, statusBytes}
-use Rattle.port.specs.Input.{Input, event, tick, setFeature, clearFeature, after}
+use Rattle.port.specs.declared.Input.{Input}
+use Rattle.port.specs.declared.Input.the-variants as input
+use Rattle.port.specs.Input.{after}
 use Rattle.port.proofs.States.{by-state}
 use Rattle.port.proofs.Bits.{bits-back}
 use Rattle.port.proofs.EnableChange.{isError, keeps, enable-kept}
@@ -228,15 +230,15 @@ module _ (h : Hub) (v : ValidHub h) (m : PortNumber) (among : Among (h .identity
 
   clear-report : (y : Lane) (n : PortNumber) (f : ClearableFeature) → Says (clearAsks (n .0) f) (byRequest h y (ClearPortFeature n f))
   unfolding reportedAfter
-  clear-report y n clearable.Enable = kept-report n (clearFeature clearable.Enable) refl
-  clear-report y n clearable.Suspend = kept-report n (clearFeature clearable.Suspend) refl
-  clear-report y n clearable.Power = kept-report n (clearFeature clearable.Power) refl
-  clear-report y n (clearable.Change bit.Connection) = kept-report n (clearFeature (clearable.Change bit.Connection)) refl
+  clear-report y n clearable.Enable = kept-report n (input.ClearFeature clearable.Enable) refl
+  clear-report y n clearable.Suspend = kept-report n (input.ClearFeature clearable.Suspend) refl
+  clear-report y n clearable.Power = kept-report n (input.ClearFeature clearable.Power) refl
+  clear-report y n (clearable.Change bit.Connection) = kept-report n (input.ClearFeature (clearable.Change bit.Connection)) refl
   clear-report y n (clearable.Change bit.Enable) =
-      set-report (clears (n .0)) (plainAnswer 0) n (clearFeature (clearable.Change bit.Enable)) (λ e. rw e) (λ e. rw e)
-  clear-report y n (clearable.Change bit.Suspend) = kept-report n (clearFeature (clearable.Change bit.Suspend)) refl
-  clear-report y n (clearable.Change bit.OverCurrent) = kept-report n (clearFeature (clearable.Change bit.OverCurrent)) refl
-  clear-report y n (clearable.Change bit.Reset) = kept-report n (clearFeature (clearable.Change bit.Reset)) refl
+      set-report (clears (n .0)) (plainAnswer 0) n (input.ClearFeature (clearable.Change bit.Enable)) (λ e. rw e) (λ e. rw e)
+  clear-report y n (clearable.Change bit.Suspend) = kept-report n (input.ClearFeature (clearable.Change bit.Suspend)) refl
+  clear-report y n (clearable.Change bit.OverCurrent) = kept-report n (input.ClearFeature (clearable.Change bit.OverCurrent)) refl
+  clear-report y n (clearable.Change bit.Reset) = kept-report n (input.ClearFeature (clearable.Change bit.Reset)) refl
 
   by-request : (x : PortAsks) (y : Lane) (r : Request) → AsksFor r x → Says x (byRequest h y r)
   unfolding configuredAs reportedAfter
@@ -249,7 +251,7 @@ module _ (h : Hub) (v : ValidHub h) (m : PortNumber) (among : Among (h .identity
   by-request x y (GetPortStatus n) q = as-asked x (reads (n .0)) (byRequest h y (GetPortStatus n)) q refl
   by-request x y ClearHubFeature q = quiet x (byRequest h y ClearHubFeature) q refl
   by-request x y (ClearPortFeature n f) q = as-asked x (clearAsks (n .0) f) (byRequest h y (ClearPortFeature n f)) q (clear-report y n f)
-  by-request x y (SetPortFeature n f) q = quiet x (byRequest h y (SetPortFeature n f)) q (kept-report n (setFeature f) refl)
+  by-request x y (SetPortFeature n f) q = quiet x (byRequest h y (SetPortFeature n f)) q (kept-report n (input.SetFeature f) refl)
   by-request x y (ClearTTBuffer k) q = quiet x (byRequest h y (ClearTTBuffer k)) q refl
   by-request x y ResetTT q = quiet x (byRequest h y ResetTT) q refl
 
@@ -287,9 +289,9 @@ module _ (h : Hub) (v : ValidHub h) (m : PortNumber) (among : Among (h .identity
 
       go : (b : Bool) → eqb e (eventNumber PortError) ≡ b → Says (cond b (errs n) nothing) (served h (Line e n))
       go true q =
-          set-report (errs n) (plainAnswer (lineEvent (portAt (h .ports) k) (eventFrom e) .number)) k (event (eventFrom e))
+          set-report (errs n) (plainAnswer (lineEvent (portAt (h .ports) k) (eventFrom e) .number)) k (input.Event (eventFrom e))
           (λ s. rw (sets (error q), zero, s)) (λ s. rw (zero, s))
-      go false q = kept-report k (event (eventFrom e)) (other q)
+      go false q = kept-report k (input.Event (eventFrom e)) (other q)
 
   poll : Says nothing (polled h)
   unfolding polled reportedAfter
@@ -304,7 +306,7 @@ module _ (h : Hub) (v : ValidHub h) (m : PortNumber) (among : Among (h .identity
   unfolding tickedHub reportedAfter
   ticks =
       elim (h .configured) as (λ x. Says nothing (done (cond x (withPorts h (swept sweep.Tick (h .identity .ports) (h .ports))) h))) [
-        | true ↦ swept-kept sweep.Tick (λ p. enable-kept p tick refl)
+        | true ↦ swept-kept sweep.Tick (λ p. enable-kept p input.Tick refl)
         | false ↦ refl
       ]
 

@@ -5,7 +5,7 @@ use mathlib.Core.Bool.{true≢false}
 use mathlib.Core.List.{List, [], _∷_, _++_}
 use lib.ListN.{replicate}
 use Rattle.port.specs.declared.Port.{Port}
-use Rattle.port.specs.Input.{Input}
+use Rattle.port.specs.declared.Input.{Input}
 use Rattle.port.specs.Mistakes.{detach, overCurrent, only, endedBy, alsoWhere, beforeC12, unreported}
 use Rattle.ports.specs.Ports.{portAt, withPort}
 use Rattle.ports.specs.Sweep.{front, swept}

@@ -2,7 +2,8 @@
 -- rules, but that a line event moves its port by a rule of crate port, specs/Mistakes.
 use Rattle.port.specs.declared.Port.{Port}
 use Rattle.port.specs.Events.{lineEvent}
-use Rattle.port.specs.Input.{Input, event}
+use Rattle.port.specs.declared.Input.{Input}
+use Rattle.port.specs.declared.Input.the-variants as input
 use Rattle.port.specs.Mistakes.{detach, overCurrent, only, endedBy, alsoWhere, beforeC12, unreported}
 use Rattle.ports.specs.Ports.{portAt}
 use Rattle.hub.specs.Hub.{withPortAt}
@@ -17,7 +18,7 @@ withEvents rule =
     (withEvent
     (λ h e m.
     let p = portAt (h .ports) m in
-    plain (withPortAt h m (rule p (event e))) (lineEvent p e .number)))
+    plain (withPortAt h m (rule p (input.Event e))) (lineEvent p e .number)))
 
 pub record ReportMistakesShutOut : Type 0 where
   pub before-C-12 : ¬ (ErrorReports (withEvents beforeC12))

@@ -1,6 +1,6 @@
 use borrow.Author.Tests.{ne-eqb}
-use Rattle.area.proofs.speed_of.Statement.{statement}
-use Rattle.area.proofs.speed_of.Tie as tie
+use Rattle.port.proofs.speed_of.Statement.{statement}
+use Rattle.port.proofs.speed_of.Tie as tie
 
 returns : tie.Need-returns
 returns c = rw (c .match .keys1)

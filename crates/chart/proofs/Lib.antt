@@ -1,0 +1,5 @@
+pub mod Whole
+pub mod Agreed
+pub mod Refuted
+pub mod Timer
+pub mod Places

@@ -1,0 +1,3 @@
+pub mod Chart
+pub mod Engines
+pub mod Mistakes

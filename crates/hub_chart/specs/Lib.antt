@@ -1,0 +1,2 @@
+pub mod HubChart
+pub mod Mistakes
