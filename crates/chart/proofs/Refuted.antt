@@ -17,7 +17,7 @@ use Rattle.port.specs.Numbers.{ticksSoFar}
 use Rattle.port.specs.Status.{statusBytes}
 use Rattle.chart.specs.Chart.{runsOn, read, lookedUp}
 use Rattle.chart.specs.Engines.{byRules, EnginesAgree}
-use Rattle.chart.specs.Mistakes.{plain, WrongCell, numbersAlone, portsAlone, countsTwice, ChartMistakesShutOut}
+use Rattle.chart.specs.Mistakes.{bare, WrongCell, numbersAlone, portsAlone, countsTwice, ChartMistakesShutOut}
 
 -- the number, the ticks and the four status bytes as one number
 abbrev weight : List ℕ → ℕ
@@ -53,7 +53,7 @@ chart-mistakes-shut-out =
       level-kept = wrong-cell _ _ _ refl;
       other-bit-cleared = wrong-cell _ _ _ refl;
       bits-kept = wrong-cell _ _ _ refl;
-      numbers-alone = wrong-step numbersAlone (plain (Resetting Full 3)) input.Tick refl;
-      ports-alone = wrong-step portsAlone (plain PoweredOff) (input.Event AttachFull) refl;
-      counts-twice = wrong-step countsTwice (plain (Resetting Full 3)) input.Tick refl;
+      numbers-alone = wrong-step numbersAlone (bare (Resetting Full 3)) input.Tick refl;
+      ports-alone = wrong-step portsAlone (bare PoweredOff) (input.Event AttachFull) refl;
+      counts-twice = wrong-step countsTwice (bare (Resetting Full 3)) input.Tick refl;
     }

@@ -1,3 +1,4 @@
 pub mod Chart
 pub mod Engines
 pub mod Mistakes
+pub mod Cases

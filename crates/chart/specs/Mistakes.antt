@@ -20,11 +20,11 @@ use Rattle.chart.specs.Chart.{runsOn, indexOf, lookedUp}
 use Rattle.chart.specs.Engines.{byRules, EnginesAgree}
 
 -- a port in this state: without over-current and change bits, and with over-current and C_PORT_CONNECTION
-abbrev pub plain : PortState → Port
-plain s = record { state = s; overcurrent = false; changes = noChanges }
+abbrev pub bare : PortState → Port
+bare s = record { state = s; overcurrent = false; changes = noChanges }
 
-abbrev pub marked : PortState → Port
-marked s = record { state = s; overcurrent = true; changes = mark change.Connection noChanges }
+abbrev pub loaded : PortState → Port
+loaded s = record { state = s; overcurrent = true; changes = mark change.Connection noChanges }
 
 -- whatever else the chart says, with this cell at this port and input the engines don't agree
 unfoldable pub WrongCell : Port → Input → ℕ → Type 0
@@ -50,26 +50,26 @@ countsTwice p input.BusReset = byRules p input.BusReset
 
 pub record ChartMistakesShutOut : Type 0 where
   -- a detach in Resuming is accepted
-  pub detach-in-resuming : WrongCell (plain (Resuming Full 0)) (input.Event Detach) 0x20001000
+  pub detach-in-resuming : WrongCell (bare (Resuming Full 0)) (input.Event Detach) 0x20001000
   -- a chirp at low speed makes high speed
-  pub chirp-at-low : WrongCell (plain (Resetting Low 0)) (input.Event Chirp) 0x42000000
+  pub chirp-at-low : WrongCell (bare (Resetting Low 0)) (input.Event Chirp) 0x42000000
   -- the tick that ends a reset doesn't report it
-  pub reset-unreported : WrongCell (plain (Resetting Full 14)) input.Tick 0x51000000
+  pub reset-unreported : WrongCell (bare (Resetting Full 14)) input.Tick 0x51000000
   -- before C-12: a detach in Enabled sets C_PORT_ENABLE too
-  pub enable-on-detach : WrongCell (plain (Enabled Full)) (input.Event Detach) 0x20003000
+  pub enable-on-detach : WrongCell (bare (Enabled Full)) (input.Event Detach) 0x20003000
   -- a refused event is answered 8 and moves the port all the same; it moves nothing and is answered 0
-  pub refused-moves : WrongCell (plain PoweredOff) (input.Event AttachFull) 0x31001008
-  pub refused-done : WrongCell (plain PoweredOff) (input.Event AttachFull) 0x10000000
+  pub refused-moves : WrongCell (bare PoweredOff) (input.Event AttachFull) 0x31001008
+  pub refused-done : WrongCell (bare PoweredOff) (input.Event AttachFull) 0x10000000
   -- a high-speed port stays at high speed when it is reset
-  pub reset-at-high : WrongCell (plain (Enabled High)) (input.SetFeature settable.Reset) 0x42000000
+  pub reset-at-high : WrongCell (bare (Enabled High)) (input.SetFeature settable.Reset) 0x42000000
   -- a port request to an unconfigured hub is answered 0
-  pub unconfigured-done : WrongCell (plain NotConfigured) (input.SetFeature settable.Power) 0x00000000
+  pub unconfigured-done : WrongCell (bare NotConfigured) (input.SetFeature settable.Power) 0x00000000
   -- set PORT_POWER powers a port with over-current
-  pub power-with-over-current : WrongCell (marked PoweredOff) (input.SetFeature settable.Power) 0x20100000
+  pub power-with-over-current : WrongCell (loaded PoweredOff) (input.SetFeature settable.Power) 0x20100000
   -- SetConfiguration 0 keeps the level; a change bit is cleared with another; bus reset keeps the bits
-  pub level-kept : WrongCell (marked PoweredOff) input.Unconfigure 0x00100000
-  pub other-bit-cleared : WrongCell (marked PoweredOff) (input.ClearFeature (clearable.Change change.Reset)) 0x10100110
-  pub bits-kept : WrongCell (marked PoweredOff) input.BusReset 0x00000000
+  pub level-kept : WrongCell (loaded PoweredOff) input.Unconfigure 0x00100000
+  pub other-bit-cleared : WrongCell (loaded PoweredOff) (input.ClearFeature (clearable.Change change.Reset)) 0x10100110
+  pub bits-kept : WrongCell (loaded PoweredOff) input.BusReset 0x00000000
   pub numbers-alone : ¬ (EnginesAgree numbersAlone)
   pub ports-alone : ¬ (EnginesAgree portsAlone)
   pub counts-twice : ¬ (EnginesAgree countsTwice)

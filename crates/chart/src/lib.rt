@@ -22,6 +22,7 @@ ghost use Rattle.chart.specs.Chart.{
   lookedUp,
 };
 ghost use Rattle.chart.specs.Engines.{answered, isPortRequest, byRules, EnginesAgree};
+ghost use Rattle.chart.specs.Cases.{EngineCases};
 ghost use Rattle.chart.specs.Mistakes.{ChartMistakesShutOut};
 
 mod table;
@@ -364,7 +365,12 @@ pub fn input_at(place: usize) -> Input
     }
 }
 
-// Charts with one wrong cell, and engines with one mistake beside the chart, break the claim; the function does nothing.
+// P3 to P10 and further sequences of inputs; the function does nothing.
+fn engine_cases()
+    ensures { λ _. ⌜ EngineCases ⌝ }
+{}
+
+// Charts with one wrong cell, and engines with one mistake, break the claim; the function does nothing.
 fn chart_mistakes_shut_out()
     ensures { λ _. ⌜ ChartMistakesShutOut ⌝ }
 {}
