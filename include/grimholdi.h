@@ -741,7 +741,8 @@ grimholdi_reason grimholdi_why_deliver(const uint8_t *area, size_t area_len,
  * C_PORT_ENABLE reports a port error and nothing else (USB 2.0,
  * 11.24.2.7.2.2): no other event, no request, tick or configuration sets it,
  * also where it ends PORT_ENABLE.  Change bits stay until ClearPortFeature or
- * a bus reset clears them.
+ * a bus reset clears them.  docs/PORTS.md shows what each event, request and
+ * tick does in each state of a port, as a picture and as a chart.
  *
  * No event touches the translator, a detach neither: the hub does not know
  * which address is on which port.  What waits or runs for a device that is

@@ -118,16 +118,20 @@ def reduced(graph):
                        for other in graph[upper] if other != lower)]
 
 
-def kind_of(texts, crate):
+def kinds_of(texts):
+    """Of each crate, how its box is filled."""
+    calls = calls_of(texts)
+    entries = entries_of(texts)
+    ships = set(entries).union(*(below(calls, entry) for entry in entries))
+    return {crate: kind_of(texts, crate, ships) for crate in calls}
+
+
+def kind_of(texts, crate, ships):
     if "crates/%s/src/main.rt" % crate in texts:
         return "program"
-    bodies = [function.body for function in functions_of(texts, crate)]
-    if not any(bodies):
+    if not any(function.body for function in functions_of(texts, crate)):
         return "claims"
-    calls = calls_of(texts)
-    ships = any(crate == entry or crate in below(calls, entry)
-                for entry in entries_of(texts))
-    return "ships" if ships else "beside"
+    return "ships" if crate in ships else "beside"
 
 
 def entries_of(texts):
@@ -243,12 +247,10 @@ class Layers:
             self.band(drawing, layer, BANDS[place % 2])
         for arrow in self.arrows:
             drawing.arrow(self.points(arrow), arrow.kind)
-        crates = crates_of(self.texts)
+        kinds = kinds_of(self.texts)
         for layer in self.layers:
             for part in layer.parts:
-                kind = "c" if part.name not in crates \
-                    else kind_of(self.texts, part.name)
-                self.draw_box(drawing, part, kind)
+                self.draw_box(drawing, part, kinds.get(part.name, "c"))
 
     def band(self, drawing, layer, fill):
         rows = [part.row for part in layer.parts]

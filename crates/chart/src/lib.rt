@@ -4,6 +4,7 @@ ghost use mathlib.Core.Path.{_≡_};
 ghost use Prim.Native.Nat.{_%_, _<_, _≤_, min};
 ghost use mathlib.Core.Bool.{not};
 ghost use Rattle.bools.specs.Bit.{bit};
+ghost use Rattle.port.specs.Reaction.{noChanges};
 ghost use Rattle.port.specs.FromNumbers.{endOf};
 ghost use Rattle.chart.specs.Chart.{
   eventColumn,
@@ -323,6 +324,7 @@ fn state_at(place: usize) -> PortState
 // A port of this line, without change bits.
 pub fn port_at(line: usize) -> Port
     ensures { λ r. ⌜ lineOf (runsOn (r .state)) r ≡ line % 48 ⌝ }
+    ensures quiet { λ r. ⌜ r .changes ≡ noChanges ⌝ }
 {
     let state = state_at(line % 24);
     let new = Port::new();

@@ -8,9 +8,11 @@ use Rattle.port.specs.declared.Speed.the-variants.{Low, Full, High}
 use Rattle.port.specs.declared.PortState.{PortState}
 use Rattle.port.specs.declared.PortState.the-variants.{NotConfigured, PoweredOff, Disconnected, Disabled, Resetting, Enabled, Suspended, Resuming}
 
+-- low where no speed has the number
 abbrev pub speedOf : ℕ → Speed
 speedOf n = cond (eqb n 1) Full (cond (eqb n 2) High Low)
 
+-- Not Configured where no state has the number
 abbrev pub stateOf : ℕ → Speed → ℕ → PortState
 stateOf n v t =
     cond (eqb n 1) PoweredOff
