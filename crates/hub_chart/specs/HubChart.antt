@@ -1,6 +1,6 @@
--- The chart is that of every port of the hub (C-20): a call that brings an input to a port is answered, and leaves that port, as the chart says.
--- A reader must believe: which calls bring which input.
-use Prim.Native.Nat.{ℕ, _≤_}
+-- The chart is that of every port of the hub (C-20): a call that brings an input to a port is answered, and leaves that port, as the chart says; and no
+-- other call moves a port. A reader must believe: which calls bring which input.
+use Prim.Native.Nat.{ℕ, _≤_, _<_}
 use mathlib.Core.Path.{_≡_}
 use mathlib.Core.Bool.{true, false}
 use mathlib.Core.List.{List}
@@ -18,7 +18,7 @@ use Rattle.request.specs.Setup.{setupOf}
 use Rattle.request.specs.Fields.{AsksFor}
 use Rattle.numbers.specs.Written.{eventNumber}
 use Rattle.hub.specs.declared.Hub.{Hub}
-use Rattle.hub.specs.Call.{Call, Control, Event, Tick, BusReset}
+use Rattle.hub.specs.Call.{Call, Control, Poll, Start, Complete, Launch, Deliver, Event, Tick, BusReset, Outcome}
 use Rattle.hub.specs.Step.{step}
 use Rattle.hub.specs.Valid.{ValidHub}
 
@@ -48,3 +48,21 @@ unfoldable pub HubFollows : (Port → Input → Answered) → Type 0
 HubFollows engine =
     (h : Hub) → ValidHub h → (m : PortNumber) → Among (h .identity .ports) m → (i : Input) (c : Call) → Brings (h .identity .ports) m i c
     → (step h c .answer .number ≡ engine (portAt (h .ports) m) i .number) × (portAt (step h c .next .ports) m ≡ engine (portAt (h .ports) m) i .port)
+
+-- a wValue of two bytes
+abbrev pub TwoByteValue : Call → Type 0
+TwoByteValue (Control z s room) = setupOf s .value < 65536
+TwoByteValue (Poll z room) = Unit {0}
+TwoByteValue (Start z p t f g a e l) = Unit {0}
+TwoByteValue (Complete z a e d room) = Unit {0}
+TwoByteValue (Launch room) = Unit {0}
+TwoByteValue (Deliver r l) = Unit {0}
+TwoByteValue (Event e n) = Unit {0}
+TwoByteValue Tick = Unit {0}
+TwoByteValue BusReset = Unit {0}
+
+-- of what calls do, to any hub: one after which a port isn't what it was has brought it an input
+unfoldable pub OnlyInputsMove : (Hub → Call → Outcome) → Type 0
+OnlyInputsMove made =
+    (h : Hub) (m : PortNumber) (c : Call) → TwoByteValue c → ¬ (portAt (made h c .next .ports) m ≡ portAt (h .ports) m)
+    → (i : Input) × Brings (h .identity .ports) m i c

@@ -1,6 +1,7 @@
 // The chart of crate `chart` is that of every port of the hub. No code that ships runs this.
 ghost use Rattle.chart.specs.Chart.{lookedUp};
-ghost use Rattle.hub_chart.specs.HubChart.{HubFollows};
+ghost use Rattle.hub.specs.Step.{step};
+ghost use Rattle.hub_chart.specs.HubChart.{HubFollows, OnlyInputsMove};
 ghost use Rattle.hub_chart.specs.Mistakes.{HubChartMistakesShutOut};
 
 // The chart, by which every valid hub serves its ports.
@@ -10,7 +11,12 @@ pub fn hub_chart() -> [u32; 1104]
     chart::chart()
 }
 
-// Engines with one mistake break the claim; the function does nothing.
+// No other call moves a port; the function does nothing.
+fn only_inputs_move()
+    ensures { λ _. ⌜ OnlyInputsMove step ⌝ }
+{}
+
+// Engines and a rule with one mistake break the claims; the function does nothing.
 fn hub_chart_mistakes_shut_out()
     ensures { λ _. ⌜ HubChartMistakesShutOut ⌝ }
 {}
