@@ -121,8 +121,8 @@ PLANTS = [
      "and no pin reaches it"),
     ("a field dropped from a claim", changed(
         "crates/grimholdi/specs/Claims.antt",
-        "  pub lane-share : LaneShare entries\n", ""),
-     "docs/PROMISES.md: `EntryClaims.lane-share` is named, and `EntryClaims` "
+        "  pub lane_share : LaneShare entries\n", ""),
+     "docs/PROMISES.md: `EntryClaims.lane_share` is named, and `EntryClaims` "
      "in crates/grimholdi/specs/Claims.antt has no such field"),
     ("a claim's definition dropped", changed(
         "crates/runs/specs/Demand3.antt", "pub record Demand3 ",
@@ -141,7 +141,7 @@ PLANTS = [
      "and no function ensures it"),
     ("a record of claims that nothing pins", added(
         "crates/runs/specs/Demand3.antt", "\npub record SpareClaims : Type 0 "
-        "where\n  pub demand-3 : Demand3 rules\n"),
+        "where\n  pub demand_3 : Demand3 rules\n"),
      "crates/runs/specs/Demand3.antt: no pin reaches `SpareClaims`, and no "
      "function ensures it"),
     ("a claim that is only required", lambda texts: (

@@ -24,7 +24,7 @@ use Rattle.area_check.proofs.Rows.{put_next}
 
 -- ---- the paths through `read_area` and what it calls
 
-pub decode-end : (a : List ℕ) (ps : List Port) (bs : List Buffer) (l : LowSide) → l ≡ low_of (get_or a 6 0) (get_or a 7 0)
+pub decode_end : (a : List ℕ) (ps : List Port) (bs : List Buffer) (l : LowSide) → l ≡ low_of (get_or a 6 0) (get_or a 7 0)
     → ps ≡ ports_of (get_or a 0 0) (take (8 + get_or a 0 0 * 4 - 8) (drop 8 a))
     → bs ≡ buffers_of (get_or a 1 0) (take (8 + get_or a 0 0 * 4 + get_or a 1 0 * 72 - (8 + get_or a 0 0 * 4)) (drop (8 + get_or a 0 0 * 4) a))
     → ◌≡◌ {A = Hub}
@@ -36,7 +36,7 @@ pub decode-end : (a : List ℕ) (ps : List Port) (bs : List Buffer) (l : LowSide
     })
     (decoded a)
 unfolding decoded
-decode-end a ps bs l d p q =
+decode_end a ps bs l d p q =
     let x : ps ≡ ports_of (get_or a 0 0) (port_part a) =
     p ∙ ap (λ (k : ℕ). ports_of (get_or a 0 0) (take k (drop 8 a))) (add-sub_cancel_left 8 (get_or a 0 0 * 4)) in
     let y : bs ≡ buffers_of (get_or a 1 0) (buffer_part a) =
@@ -44,9 +44,9 @@ decode-end a ps bs l d p q =
     rw (x, y, d)
 
 module _ (a : List ℕ) (z : Bool) (ez : z ≡ accepts a) where
-  pub read-not : (r : Read) → r ≡ refusal → z ≡ false → r ≡ read_of a
+  pub read_not : (r : Read) → r ≡ refusal → z ≡ false → r ≡ read_of a
   unfolding read_of
-  read-not r e f = e ∙ sym (ap (λ (b : Bool). cond b (record { ok = true; hub = decoded a }) refusal) (sym ez ∙ f))
+  read_not r e f = e ∙ sym (ap (λ (b : Bool). cond b (record { ok = true; hub = decoded a }) refusal) (sym ez ∙ f))
 
   pub read_taken : (h : Hub) → h ≡ decoded a → z ≡ true → ◌≡◌ {A = Read} (record { ok = true; hub = h }) (read_of a)
   unfolding read_of
@@ -72,9 +72,9 @@ module _ (h : Hub) (o : List ℕ) (n m : ℕ) (en : n ≡ min h.identity.ports 7
   span : 8 + n * 4 + m * 72 ≡ 8 + min h.identity.ports 7 * 4 + min h.translator.count 4 * 72
   span = ap (λ (x : ℕ). 8 + x * 4 + m * 72) en ∙ ap (λ (x : ℕ). 8 + min h.identity.ports 7 * 4 + x * 72) em
 
-  pub write-not : ¬ (length o ≡ 8 + n * 4 + m * 72) → o ≡ written_over h o
+  pub write_not : ¬ (length o ≡ 8 + n * 4 + m * 72) → o ≡ written_over h o
   unfolding written_over
-  write-not d = sym (ap (λ (b : Bool). cond b (written h) o) (ne_eqb _ _ (λ e. d (e ∙ sym span))))
+  write_not d = sym (ap (λ (b : Bool). cond b (written h) o) (ne_eqb _ _ (λ e. d (e ∙ sym span))))
 
   module _ (lp : length h.ports ≡ 7) (lb : length h.translator.buffers ≡ 4) (lo : length o ≡ 8 + n * 4 + m * 72) where
     joined : head_bytes h.identity h.configured h.translator.count h.translator.low
@@ -88,11 +88,11 @@ module _ (h : Hub) (o : List ℕ) (n m : ℕ) (en : n ≡ min h.identity.ports 7
         ap (λ (i : ℕ). take i h.translator.buffers) em ∙ take_min h.translator.count 4 h.translator.buffers lb in
         rw (p, b) (sym (ap (λ (t : Bool). cond t (written h) o) (eq-eqb (length o) _ (lo ∙ span))))
 
-    pub write-end : (f p b : List ℕ) → length f ≡ 8 → length p ≡ n * 4
+    pub write_end : (f p b : List ℕ) → length f ≡ 8 → length p ≡ n * 4
         → f ≡ head_bytes h.identity h.configured h.translator.count h.translator.low → p ≡ flat port_bytes (take n h.ports)
         → b ≡ flat buffer_bytes (take m h.translator.buffers)
         → put_mid (8 + n * 4) (8 + n * 4 + m * 72 - (8 + n * 4)) (put_mid 8 (8 + n * 4 - 8) (put_mid 0 8 o f) p) b ≡ written_over h o
-    write-end f p b nf np e₁ e₂ e₃ =
+    write_end f p b nf np e₁ e₂ e₃ =
         let i : ℕ = n * 4 in
         let j : ℕ = m * 72 in
         let r : List ℕ = drop 8 o in

@@ -14,30 +14,30 @@ use Rattle.area.specs.declared.Read.{Read}
 use Rattle.area.specs.Written.{port_bytes, buffer_bytes, head_bytes, written}
 use Rattle.area.specs.Read.{refusal, read_of}
 use Rattle.area.specs.Cases.{NumbersAsked, PayloadsAsked, TimersAsked, BuffersAsked, ConfigurationAsked, OthersTaken, NewNumbers, ValidCases}
-use Rattle.area.proofs.Exact.{area-exact}
+use Rattle.area.proofs.Exact.{area_exact_lem}
 
 valid : (h : Hub) → read_of (written h) ≡ record { ok = true; hub = h } → ValidHub h
-valid h e = ((area-exact.taken (written h) h).0 e).0
+valid h e = ((area_exact_lem.taken (written h) h).0 e).0
 
 invalid : (h : Hub) → (read_of (written h)).ok ≡ false → ¬ (ValidHub h)
-invalid h e v = true≢false (sym (ap (λ (r : Read). r.ok) (area-exact.again h v)) ∙ e)
+invalid h e v = true≢false (sym (ap (λ (r : Read). r.ok) (area_exact_lem.again h v)) ∙ e)
 
 numbers : NumbersAsked
 unfolding padded payload_of same_key numbers_fit start_fits result_length new_fits flat parts every blank marked_port port_of held_split slot_of buffer_of no_ports no_buffers ports_of buffers_of decoded port_fits names_fit buffer_fits clashing filled_by runs head_fits sized rows_fit accepts port_bytes buffer_bytes head_bytes written refusal read_of
 numbers =
     record {
       kept = valid _ refl;
-      no-port = invalid _ refl;
-      eight-ports = invalid _ refl;
-      one-buffer = invalid _ refl;
-      five-buffers = invalid _ refl;
-      power-good = invalid _ refl;
+      no_port = invalid _ refl;
+      eight_ports = invalid _ refl;
+      one_buffer = invalid _ refl;
+      five_buffers = invalid _ refl;
+      power_good = invalid _ refl;
       current = invalid _ refl;
-      removable-bit-0 = invalid _ refl;
-      removable-above = invalid _ refl;
+      removable_bit_0 = invalid _ refl;
+      removable_above = invalid _ refl;
       largest = valid _ refl;
-      address-128 = invalid _ refl;
-      endpoint-16 = invalid _ refl;
+      address_128 = invalid _ refl;
+      endpoint_16 = invalid _ refl;
     }
 
 payloads : PayloadsAsked
@@ -45,27 +45,27 @@ unfolding padded payload_of same_key numbers_fit start_fits result_length new_fi
 payloads =
     record {
       setup = valid _ refl;
-      setup-bulk = invalid _ refl;
-      setup-7-bytes = invalid _ refl;
-      in-with-payload = invalid _ refl;
-      sixty-four = valid _ refl;
-      sixty-five = invalid _ refl;
-      data-payload = valid _ refl;
-      nak-payload = invalid _ refl;
-      old-nak-payload = invalid _ refl;
-      zeros-behind = valid _ refl;
-      byte-behind = invalid _ refl;
-      empty-payload = invalid _ refl;
+      setup_bulk = invalid _ refl;
+      setup_7_bytes = invalid _ refl;
+      in_with_payload = invalid _ refl;
+      sixty_four = valid _ refl;
+      sixty_five = invalid _ refl;
+      data_payload = valid _ refl;
+      nak_payload = invalid _ refl;
+      old_nak_payload = invalid _ refl;
+      zeros_behind = valid _ refl;
+      byte_behind = invalid _ refl;
+      empty_payload = invalid _ refl;
     }
 
 timers : TimersAsked
 unfolding padded payload_of same_key numbers_fit start_fits result_length new_fits flat parts every blank marked_port port_of held_split slot_of buffer_of no_ports no_buffers ports_of buffers_of decoded port_fits names_fit buffer_fits clashing filled_by runs head_fits sized rows_fit accepts port_bytes buffer_bytes head_bytes written refusal read_of
 timers =
     record {
-      resetting-14 = valid _ refl;
-      resetting-15 = invalid _ refl;
-      resuming-21 = valid _ refl;
-      resuming-22 = invalid _ refl;
+      resetting_14 = valid _ refl;
+      resetting_15 = invalid _ refl;
+      resuming_21 = valid _ refl;
+      resuming_22 = invalid _ refl;
     }
 
 buffers : BuffersAsked
@@ -74,17 +74,17 @@ buffers =
     record {
       other_key = valid _ refl;
       same_key = invalid _ refl;
-      same-key-old = invalid _ refl;
-      other-direction = valid _ refl;
-      other-lane = valid _ refl;
+      same_key_old = invalid _ refl;
+      other_direction = valid _ refl;
+      other_lane = valid _ refl;
       same_place = invalid _ refl;
       running = valid _ refl;
-      running-ready = invalid _ refl;
-      running-empty = invalid _ refl;
-      running-nowhere = invalid _ refl;
+      running_ready = invalid _ refl;
+      running_empty = invalid _ refl;
+      running_nowhere = invalid _ refl;
       abandoned = valid _ refl;
-      two-of-three = valid _ refl;
-      all-pending = invalid _ refl;
+      two_of_three = valid _ refl;
+      all_pending = invalid _ refl;
       all_held = invalid _ refl;
     }
 
@@ -92,23 +92,23 @@ configuration : ConfigurationAsked
 unfolding padded payload_of same_key numbers_fit start_fits result_length new_fits flat parts every blank marked_port port_of held_split slot_of buffer_of no_ports no_buffers ports_of buffers_of decoded port_fits names_fit buffer_fits clashing filled_by runs head_fits sized rows_fit accepts port_bytes buffer_bytes head_bytes written refusal read_of
 configuration =
     record {
-      none-not-configured = valid _ refl;
-      one-not-configured = invalid _ refl;
-      all-not-configured = valid _ refl;
-      one-powered-off = invalid _ refl;
+      none_not_configured = valid _ refl;
+      one_not_configured = invalid _ refl;
+      all_not_configured = valid _ refl;
+      one_powered_off = invalid _ refl;
     }
 
 others : OthersTaken
 unfolding padded payload_of same_key numbers_fit start_fits result_length new_fits flat parts every blank marked_port port_of held_split slot_of buffer_of no_ports no_buffers ports_of buffers_of decoded port_fits names_fit buffer_fits clashing filled_by runs head_fits sized rows_fit accepts port_bytes buffer_bytes head_bytes written refusal read_of
 others =
     record {
-      in-ack = valid _ refl;
-      out-data = valid _ refl;
+      in_ack = valid _ refl;
+      out_data = valid _ refl;
       powered = valid _ refl;
-      later-runs = valid _ refl;
-      far-place = valid _ refl;
-      held-unconfigured = valid _ refl;
-      level-unconfigured = valid _ refl;
+      later_runs = valid _ refl;
+      far_place = valid _ refl;
+      held_unconfigured = valid _ refl;
+      level_unconfigured = valid _ refl;
     }
 
 new : NewNumbers
@@ -117,17 +117,17 @@ new =
     record {
       least = refl;
       most = refl;
-      no-port = refl;
-      eight-ports = refl;
-      one-buffer = refl;
-      five-buffers = refl;
-      power-good = refl;
+      no_port = refl;
+      eight_ports = refl;
+      one_buffer = refl;
+      five_buffers = refl;
+      power_good = refl;
       current = refl;
-      removable-bit-0 = refl;
-      removable-bit-4 = refl;
-      removable-bit-5 = refl;
+      removable_bit_0 = refl;
+      removable_bit_4 = refl;
+      removable_bit_5 = refl;
     }
 
-pub valid-cases : ValidCases
-valid-cases =
+pub valid_cases_lem : ValidCases
+valid_cases_lem =
     record { numbers = numbers; payloads = payloads; timers = timers; buffers = buffers; configuration = configuration; others = others; new = new }

@@ -13,34 +13,34 @@ use Rattle.payload.specs.Bytes.{flat}
 use Rattle.area_check.proofs.Rows.{flat_append}
 use Rattle.area.specs.Written.{placed}
 
-pub placed-is : (n k : ℕ) (o p : List ℕ) → put_mid n k o p ≡ placed n k p o
-placed-is n k o p = ap (λ (r : List ℕ). take n o ++ (p ++ r)) (drop-drop k n o)
+pub placed_is : (n k : ℕ) (o p : List ℕ) → put_mid n k o p ≡ placed n k p o
+placed_is n k o p = ap (λ (r : List ℕ). take n o ++ (p ++ r)) (drop-drop k n o)
 
-pub placed-cut : (n k : ℕ) (o p : List ℕ) → put_mid n (n + k - n) o p ≡ placed n k p o
-placed-cut n k o p = ap (λ (m : ℕ). put_mid n m o p) (add-sub_cancel_left n k) ∙ placed-is n k o p
+pub placed_cut : (n k : ℕ) (o p : List ℕ) → put_mid n (n + k - n) o p ≡ placed n k p o
+placed_cut n k o p = ap (λ (m : ℕ). put_mid n m o p) (add-sub_cancel_left n k) ∙ placed_is n k o p
 
-pub over-put : (n k m : ℕ) (o p q : List ℕ) → m ≤ length o → p ≡ q → put_mid n (n + k - n) o p ≡ cond (leb m (length o)) (placed n k q o) o
-over-put n k m o p q h e =
-    placed-cut n k o p ∙ ap (λ (r : List ℕ). placed n k r o) e ∙ sym (ap (λ (b : Bool). cond b (placed n k q o) o) (le-leb m (length o) h))
+pub over_put : (n k m : ℕ) (o p q : List ℕ) → m ≤ length o → p ≡ q → put_mid n (n + k - n) o p ≡ cond (leb m (length o)) (placed n k q o) o
+over_put n k m o p q h e =
+    placed_cut n k o p ∙ ap (λ (r : List ℕ). placed n k r o) e ∙ sym (ap (λ (b : Bool). cond b (placed n k q o) o) (le-leb m (length o) h))
 
 -- a test of the length that fails, or holds
 pub over_none : {A : Type 0} (n : ℕ) (o : List ℕ) (x y : A) → length o < n → y ≡ cond (leb n (length o)) x y
 over_none n o x y h = sym (ap (λ (b : Bool). cond b x y) (lt-leb n (length o) h))
 
-pub over-not : (n : ℕ) (o x : List ℕ) → length o < n → o ≡ cond (leb n (length o)) x o
-over-not n o x h = over_none n o x o h
+pub over_not : (n : ℕ) (o x : List ℕ) → length o < n → o ≡ cond (leb n (length o)) x o
+over_not n o x h = over_none n o x o h
 
-pub over-some : {A : Type 0} (n : ℕ) (o : List ℕ) (x y : A) → n ≤ length o → x ≡ cond (leb n (length o)) x y
-over-some n o x y h = sym (ap (λ (b : Bool). cond b x y) (le-leb n (length o) h))
+pub over_some : {A : Type 0} (n : ℕ) (o : List ℕ) (x y : A) → n ≤ length o → x ≡ cond (leb n (length o)) x y
+over_some n o x y h = sym (ap (λ (b : Bool). cond b x y) (le-leb n (length o) h))
 
-pub cut-size : {A : Type 0} (f : List ℕ → A) (n k : ℕ) (o : List ℕ) → f (take (n + k - n) (drop n o)) ≡ f (take k (drop n o))
-cut-size f n k o = ap (λ (m : ℕ). f (take m (drop n o))) (add-sub_cancel_left n k)
+pub cut_size : {A : Type 0} (f : List ℕ → A) (n k : ℕ) (o : List ℕ) → f (take (n + k - n) (drop n o)) ≡ f (take k (drop n o))
+cut_size f n k o = ap (λ (m : ℕ). f (take m (drop n o))) (add-sub_cancel_left n k)
 
 -- one element of a row got, behind the bytes before the row
-pub row-got : {A : Type 0} (enc : A → List ℕ) (k m : ℕ) (hd r : List ℕ) (xs : List A) (i : ℕ) (d : A) → length hd ≡ m → i < length xs
+pub row_got : {A : Type 0} (enc : A → List ℕ) (k m : ℕ) (hd r : List ℕ) (xs : List A) (i : ℕ) (d : A) → length hd ≡ m → i < length xs
     → length (flat enc (take i xs)) ≡ i * k → length (enc (get_or xs i d)) ≡ k → take k (drop (m + i * k) (hd ++ (flat enc xs ++ r))) ≡ enc (get_or xs i d)
 unfolding flat
-row-got {A} enc k m hd r xs i d nh h nf nx =
+row_got {A} enc k m hd r xs i d nh h nf nx =
     let x : A = get_or xs i d in
     let f : List ℕ = flat enc (take i xs) in
     let g : List ℕ = flat enc (drop (suc i) xs) in

@@ -14,7 +14,7 @@ use Rattle.area_check.specs.Read.{slot_of, buffer_of}
 use Rattle.area.specs.Written.{slot_bytes, buffer_bytes, buffer_put}
 use Rattle.area.specs.Read.{buffer_from}
 use Rattle.area_check.proofs.Rows.{put_next}
-use Rattle.area.proofs.Over.{over_none, over-some, over-put, cut-size}
+use Rattle.area.proofs.Over.{over_none, over_some, over_put, cut_size}
 
 -- a buffer's two parts are its written form
 pub put_both : (b : Buffer) (o f p : List ℕ) → length o ≡ 72 → length f ≡ 8 → f ≡ slot_bytes b.slot b.payload.len → p ≡ b.payload.bytes
@@ -28,8 +28,8 @@ put_both b o f p n nf ef ep =
     ∙ ap (λ (r : List ℕ). r ++ p) ef
     ∙ ap (λ (r : List ℕ). slot_bytes b.slot b.payload.len ++ r) ep
 
-pub second-part : (o f : List ℕ) → length o ≡ 72 → length f ≡ 8 → length (take 64 (drop 8 (put_mid 0 8 o f))) ≡ 64
-second-part o f n nf =
+pub second_part : (o f : List ℕ) → length o ≡ 72 → length f ≡ 8 → length (take 64 (drop 8 (put_mid 0 8 o f))) ≡ 64
+second_part o f n nf =
     let e : drop 8 (put_mid 0 8 o f) ≡ drop 8 o = drop_at f (drop 8 o) 8 nf in
     ap (λ (r : List ℕ). length (take 64 r)) e ∙ length-take-le 64 (drop 8 o) (simp length-drop (omega arith))
 
@@ -37,26 +37,26 @@ second-part o f n nf =
 
 module _ (n : ℕ) (a : List ℕ) where
   module _ (h : length a < n + 72) where
-    pub buffer-none : {b : Buffer} → b ≡ vacant → b ≡ buffer_from n a
+    pub buffer_none : {b : Buffer} → b ≡ vacant → b ≡ buffer_from n a
     unfolding buffer_from
-    buffer-none e = e ∙ over_none (n + 72) a _ _ h
+    buffer_none e = e ∙ over_none (n + 72) a _ _ h
 
-    pub slot-none : Empty ≡ (buffer_from n a).slot
-    slot-none = ap (λ (b : Buffer). b.slot) (buffer-none refl)
+    pub slot_none : Empty ≡ (buffer_from n a).slot
+    slot_none = ap (λ (b : Buffer). b.slot) (buffer_none refl)
 
-    pub put-none : (b : Buffer) → a ≡ buffer_put n b a
+    pub put_none : (b : Buffer) → a ≡ buffer_put n b a
     unfolding buffer_put
-    put-none b = over_none (n + 72) a _ _ h
+    put_none b = over_none (n + 72) a _ _ h
 
   module _ (h : n + 72 ≤ length a) where
-    pub buffer-some : {b : Buffer} → b ≡ buffer_of (take (n + 72 - n) (drop n a)) → b ≡ buffer_from n a
+    pub buffer_some : {b : Buffer} → b ≡ buffer_of (take (n + 72 - n) (drop n a)) → b ≡ buffer_from n a
     unfolding buffer_from
-    buffer-some e = e ∙ cut-size buffer_of n 72 a ∙ over-some (n + 72) a _ _ h
+    buffer_some e = e ∙ cut_size buffer_of n 72 a ∙ over_some (n + 72) a _ _ h
 
-    pub slot-some : {s : Slot} → s ≡ slot_of (take (n + 72 - n) (drop n a)) → s ≡ (buffer_from n a).slot
+    pub slot_some : {s : Slot} → s ≡ slot_of (take (n + 72 - n) (drop n a)) → s ≡ (buffer_from n a).slot
     unfolding buffer_of
-    slot-some e = e ∙ ap (λ (b : Buffer). b.slot) (buffer-some refl)
+    slot_some e = e ∙ ap (λ (b : Buffer). b.slot) (buffer_some refl)
 
     pub put_some : (b : Buffer) {p : List ℕ} → p ≡ buffer_bytes b → put_mid n (n + 72 - n) a p ≡ buffer_put n b a
     unfolding buffer_put
-    put_some b e = over-put n 72 (n + 72) a _ _ h e
+    put_some b e = over_put n 72 (n + 72) a _ _ h e

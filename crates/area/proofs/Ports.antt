@@ -24,8 +24,8 @@ use Rattle.area_check.specs.Read.{is_odd, marked_port, port_of, speeds_of, agree
 
 -- ---- bits
 
-bit-odd : (n : ℕ) → bit (is_odd n) ≡ n % 2
-bit-odd n = go (is_odd n) refl
+bit_odd : (n : ℕ) → bit (is_odd n) ≡ n % 2
+bit_odd n = go (is_odd n) refl
   where
     go : (b : Bool) → is_odd n ≡ b → bit b ≡ n % 2
     go true e = sym (eqb-true (n % 2) 1 e)
@@ -36,40 +36,40 @@ twos zero = 1
 twos (suc k) = 2 * twos k
 
 -- a number of k bits is made of its bits
-pub bits-whole : (k n : ℕ) → n < twos k → byte_of (bits_of k n) ≡ n
-bits-whole zero n h = omega arith
-bits-whole (suc k) n h =
-    let e : byte_of (bits_of k (n / 2)) ≡ n / 2 = bits-whole k (n / 2) (omega arith) in
-    let o : bit (is_odd n) ≡ n % 2 = bit-odd n in
+pub bits_whole : (k n : ℕ) → n < twos k → byte_of (bits_of k n) ≡ n
+bits_whole zero n h = omega arith
+bits_whole (suc k) n h =
+    let e : byte_of (bits_of k (n / 2)) ≡ n / 2 = bits_whole k (n / 2) (omega arith) in
+    let o : bit (is_odd n) ≡ n % 2 = bit_odd n in
     omega arith
 
 -- ---- one state
 
-speed-again : (v : Speed) → speed_of (speed_number v) ≡ v
-speed-again Low = refl
-speed-again Full = refl
-speed-again High = refl
+speed_again : (v : Speed) → speed_of (speed_number v) ≡ v
+speed_again Low = refl
+speed_again Full = refl
+speed_again High = refl
 
-speed-back : (n : ℕ) → n < 3 → speed_number (speed_of n) ≡ n
-speed-back zero h = refl
-speed-back (suc zero) h = refl
-speed-back (suc (suc zero)) h = refl
-speed-back (suc (suc (suc n))) h = absurd (omega arith)
+speed_back : (n : ℕ) → n < 3 → speed_number (speed_of n) ≡ n
+speed_back zero h = refl
+speed_back (suc zero) h = refl
+speed_back (suc (suc zero)) h = refl
+speed_back (suc (suc (suc n))) h = absurd (omega arith)
 
-speed-lt : (v : Speed) → ltb (speed_number v) 3 ≡ true
-speed-lt Low = refl
-speed-lt Full = refl
-speed-lt High = refl
+speed_lt : (v : Speed) → ltb (speed_number v) 3 ≡ true
+speed_lt Low = refl
+speed_lt Full = refl
+speed_lt High = refl
 
-state-again : (s : PortState) → state_of (state_number s) (speed_of (state_speed s)) (ticks_so_far s) ≡ s
-state-again NotConfigured = refl
-state-again PoweredOff = refl
-state-again Disconnected = refl
-state-again (Disabled v) = ap Disabled (speed-again v)
-state-again (Resetting v t) = ap (λ (x : Speed). Resetting x t) (speed-again v)
-state-again (Enabled v) = ap Enabled (speed-again v)
-state-again (Suspended v) = ap Suspended (speed-again v)
-state-again (Resuming v t) = ap (λ (x : Speed). Resuming x t) (speed-again v)
+state_again : (s : PortState) → state_of (state_number s) (speed_of (state_speed s)) (ticks_so_far s) ≡ s
+state_again NotConfigured = refl
+state_again PoweredOff = refl
+state_again Disconnected = refl
+state_again (Disabled v) = ap Disabled (speed_again v)
+state_again (Resetting v t) = ap (λ (x : Speed). Resetting x t) (speed_again v)
+state_again (Enabled v) = ap Enabled (speed_again v)
+state_again (Suspended v) = ap Suspended (speed_again v)
+state_again (Resuming v t) = ap (λ (x : Speed). Resuming x t) (speed_again v)
 
 -- what a right state says
 record StateRead (g : Bool) (n v t : ℕ) : Type 0 where
@@ -79,8 +79,8 @@ record StateRead (g : Bool) (n v t : ℕ) : Type 0 where
   timer : TimerBelowEnd (state_of n (speed_of v) t)
   agree : is_not_configured (state_of n (speed_of v) t) ≡ not g
 
-below-eight : (n v : ℕ) → v < speeds_of n → n < 8
-below-eight n v h = go (ltb n 3) refl (ltb n 8) refl
+below_eight : (n v : ℕ) → v < speeds_of n → n < 8
+below_eight n v h = go (ltb n 3) refl (ltb n 8) refl
   where
     go : (a : Bool) → ltb n 3 ≡ a → (b : Bool) → ltb n 8 ≡ b → n < 8
     go true e b f = let x : n < 3 = ltb-true n 3 e in omega arith
@@ -110,19 +110,19 @@ tested g b v t k m e =
     let y = (and-eq-true_iff (ltb v k) (ltb t m)).0 x.0 in
     record { speed = ltb-true v k y.0; ticks = ltb-true t m y.1; agree = x.1 }
 
-state-to : (g : Bool) (n v t : ℕ) → state_fits g n v t ≡ true → StateRead g n v t
-state-to g n v t e =
+state_to : (g : Bool) (n v t : ℕ) → state_fits g n v t ≡ true → StateRead g n v t
+state_to g n v t e =
     let u = tested g (eqb n 0) v t (speeds_of n) (end_of n) e in
     eight (λ (m : ℕ). state_fits g m v t ≡ true → StateRead g m v t)
     (λ q. let x = tested g true v t 1 1 q in record { state = refl; speed = zero_is v x.speed; ticks = zero_is t x.ticks; timer = tt; agree = sym x.agree })
     (λ q. plain (tested g false v t 1 1 q))
     (λ q. plain' (tested g false v t 1 1 q))
-    (λ q. let x = tested g false v t 3 1 q in record { state = refl; speed = speed-back v x.speed; ticks = zero_is t x.ticks; timer = tt; agree = on x.agree })
-    (λ q. let x = tested g false v t 3 15 q in record { state = refl; speed = speed-back v x.speed; ticks = refl; timer = x.ticks; agree = on x.agree })
-    (λ q. let x = tested g false v t 3 1 q in record { state = refl; speed = speed-back v x.speed; ticks = zero_is t x.ticks; timer = tt; agree = on x.agree })
-    (λ q. let x = tested g false v t 3 1 q in record { state = refl; speed = speed-back v x.speed; ticks = zero_is t x.ticks; timer = tt; agree = on x.agree })
-    (λ q. let x = tested g false v t 3 22 q in record { state = refl; speed = speed-back v x.speed; ticks = refl; timer = x.ticks; agree = on x.agree })
-    n (below-eight n v u.speed) e
+    (λ q. let x = tested g false v t 3 1 q in record { state = refl; speed = speed_back v x.speed; ticks = zero_is t x.ticks; timer = tt; agree = on x.agree })
+    (λ q. let x = tested g false v t 3 15 q in record { state = refl; speed = speed_back v x.speed; ticks = refl; timer = x.ticks; agree = on x.agree })
+    (λ q. let x = tested g false v t 3 1 q in record { state = refl; speed = speed_back v x.speed; ticks = zero_is t x.ticks; timer = tt; agree = on x.agree })
+    (λ q. let x = tested g false v t 3 1 q in record { state = refl; speed = speed_back v x.speed; ticks = zero_is t x.ticks; timer = tt; agree = on x.agree })
+    (λ q. let x = tested g false v t 3 22 q in record { state = refl; speed = speed_back v x.speed; ticks = refl; timer = x.ticks; agree = on x.agree })
+    n (below_eight n v u.speed) e
   where
     zero_is : (m : ℕ) → m < 1 → 0 ≡ m
     zero_is m h = omega arith
@@ -136,19 +136,19 @@ state-to g n v t e =
     plain' : Tested g false v t 1 1 → StateRead g 2 v t
     plain' x = record { state = refl; speed = zero_is v x.speed; ticks = zero_is t x.ticks; timer = tt; agree = on x.agree }
 
-configured-of : (g : Bool) → false ≡ not g → g ≡ true
-configured-of true e = refl
-configured-of false e = absurd (false≢true e)
+configured_of : (g : Bool) → false ≡ not g → g ≡ true
+configured_of true e = refl
+configured_of false e = absurd (false≢true e)
 
-state-of : (g : Bool) (s : PortState) → TimerBelowEnd s → is_not_configured s ≡ not g → state_fits g (state_number s) (state_speed s) (ticks_so_far s) ≡ true
-state-of g NotConfigured h e = sym e
-state-of g PoweredOff h e = configured-of g e
-state-of g Disconnected h e = configured-of g e
-state-of g (Disabled v) h e = rw (speed-lt v) (configured-of g e)
-state-of g (Resetting v t) h e = rw (speed-lt v, lt-ltb t 15 h) (configured-of g e)
-state-of g (Enabled v) h e = rw (speed-lt v) (configured-of g e)
-state-of g (Suspended v) h e = rw (speed-lt v) (configured-of g e)
-state-of g (Resuming v t) h e = rw (speed-lt v, lt-ltb t 22 h) (configured-of g e)
+state_of_lem : (g : Bool) (s : PortState) → TimerBelowEnd s → is_not_configured s ≡ not g → state_fits g (state_number s) (state_speed s) (ticks_so_far s) ≡ true
+state_of_lem g NotConfigured h e = sym e
+state_of_lem g PoweredOff h e = configured_of g e
+state_of_lem g Disconnected h e = configured_of g e
+state_of_lem g (Disabled v) h e = rw (speed_lt v) (configured_of g e)
+state_of_lem g (Resetting v t) h e = rw (speed_lt v, lt-ltb t 15 h) (configured_of g e)
+state_of_lem g (Enabled v) h e = rw (speed_lt v) (configured_of g e)
+state_of_lem g (Suspended v) h e = rw (speed_lt v) (configured_of g e)
+state_of_lem g (Resuming v t) h e = rw (speed_lt v, lt-ltb t 22 h) (configured_of g e)
 
 -- ---- one port
 
@@ -169,39 +169,39 @@ with_bits s l =
 abbrev marks_of : Port → List Bool
 marks_of p = p.changes.connection ∷ p.changes.enable ∷ p.changes.suspend ∷ p.changes.overcurrent ∷ p.changes.reset ∷ p.overcurrent ∷ []
 
-marks-again : (s : PortState) (p : Port) → marked_port s (marks_byte p) ≡ with_bits s (marks_of p)
+marks_again : (s : PortState) (p : Port) → marked_port s (marks_byte p) ≡ with_bits s (marks_of p)
 unfolding marked_port
-marks-again s p = ap (with_bits s) (bits_back (marks_of p))
+marks_again s p = ap (with_bits s) (bits_back (marks_of p))
 
-pub port-again : (p : Port) → port_of (port_bytes p) ≡ p
+pub port_again : (p : Port) → port_of (port_bytes p) ≡ p
 unfolding port_of port_bytes
-port-again p = marks-again (state_of (state_number p.state) (speed_of (state_speed p.state)) (ticks_so_far p.state)) p ∙ ap (λ (s : PortState). with_bits s (marks_of p)) (state-again p.state)
+port_again p = marks_again (state_of (state_number p.state) (speed_of (state_speed p.state)) (ticks_so_far p.state)) p ∙ ap (λ (s : PortState). with_bits s (marks_of p)) (state_again p.state)
 
-pub port-size : (p : Port) → length (port_bytes p) ≡ 4
+pub port_size : (p : Port) → length (port_bytes p) ≡ 4
 unfolding port_bytes
-port-size p = refl
+port_size p = refl
 
 four_is : (a a' b b' c c' d d' : ℕ) → a ≡ a' → b ≡ b' → c ≡ c' → d ≡ d' → ◌≡◌ {A = List ℕ} (a ∷ b ∷ c ∷ d ∷ []) (a' ∷ b' ∷ c' ∷ d' ∷ [])
 four_is a a' b b' c c' d d' e f g h = cc
 
-pub port-to : (g : Bool) (l : List ℕ) → length l ≡ 4 → port_fits g l ≡ true → (port_bytes (port_of l) ≡ l) × PortValid g (port_of l)
+pub port_to : (g : Bool) (l : List ℕ) → length l ≡ 4 → port_fits g l ≡ true → (port_bytes (port_of l) ≡ l) × PortValid g (port_of l)
 unfolding port_fits port_of port_bytes marked_port
-port-to g l n e =
+port_to g l n e =
     let x = (and-eq-true_iff (state_fits g (get_or l 0 0) (get_or l 1 0) (get_or l 2 0)) (ltb (get_or l 3 0) 64)).0 e in
-    let s = state-to g (get_or l 0 0) (get_or l 1 0) (get_or l 2 0) x.0 in
-    let m : byte_of (bits_of 6 (get_or l 3 0)) ≡ get_or l 3 0 = bits-whole 6 (get_or l 3 0) (ltb-true (get_or l 3 0) 64 x.1) in (
+    let s = state_to g (get_or l 0 0) (get_or l 1 0) (get_or l 2 0) x.0 in
+    let m : byte_of (bits_of 6 (get_or l 3 0)) ≡ get_or l 3 0 = bits_whole 6 (get_or l 3 0) (ltb-true (get_or l 3 0) 64 x.1) in (
       four_is _ (get_or l 0 0) _ (get_or l 1 0) _ (get_or l 2 0) _ (get_or l 3 0) s.state s.speed s.ticks m ∙ sym (four 0 l n),
       record { timer = s.timer; agree = s.agree },
     )
 
-pub port-of : (g : Bool) (p : Port) → PortValid g p → port_fits g (port_bytes p) ≡ true
+pub port_of_lem : (g : Bool) (p : Port) → PortValid g p → port_fits g (port_bytes p) ≡ true
 unfolding port_fits port_bytes
-port-of g p v = rw (state-of g p.state v.timer v.agree) (marks-lt (marks_of p))
+port_of_lem g p v = rw (state_of_lem g p.state v.timer v.agree) (marks_lt (marks_of p))
   where
     below : (l : List Bool) → byte_of l < twos (length l)
     below [] = omega arith
     below (true ∷ l) = let h = below l in omega arith
     below (false ∷ l) = let h = below l in omega arith
 
-    marks-lt : (l : List Bool) → ltb (byte_of l) (twos (length l)) ≡ true
-    marks-lt l = lt-ltb (byte_of l) (twos (length l)) (below l)
+    marks_lt : (l : List Bool) → ltb (byte_of l) (twos (length l)) ≡ true
+    marks_lt l = lt-ltb (byte_of l) (twos (length l)) (below l)

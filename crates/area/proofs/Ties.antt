@@ -32,19 +32,19 @@ slot_at bs i = get_or-map (λ (b : Buffer). b.slot) bs i vacant
 
 -- ---- two slots
 
-or-false-to : (a b : Bool) → a || b ≡ false → (a ≡ false) × (b ≡ false)
-or-false-to true b e = absurd (true≢false e)
-or-false-to false b e = (refl, e)
+or_false_to : (a b : Bool) → a || b ≡ false → (a ≡ false) × (b ≡ false)
+or_false_to true b e = absurd (true≢false e)
+or_false_to false b e = (refl, e)
 
 key-clash : (k : Key) (x y : Slot) → clash x y ≡ false → holds k x ≡ true → holds k y ≡ true → ⊥
 key-clash k Empty y e p q = false≢true p
-key-clash k (Pending s r) y e p q = true≢false (sym q ∙ ap (λ (j : Key). holds j y) (sym (same_true (key_of s) k p)) ∙ (or-false-to (holds (key_of s) y) (at_place r y) e).0)
+key-clash k (Pending s r) y e p q = true≢false (sym q ∙ ap (λ (j : Key). holds j y) (sym (same_true (key_of s) k p)) ∙ (or_false_to (holds (key_of s) y) (at_place r y) e).0)
 key-clash k (Ready s r) y e p q = true≢false (sym q ∙ ap (λ (j : Key). holds j y) (sym (same_true (key_of s) k p)) ∙ e)
 key-clash k (Old s r) y e p q = true≢false (sym q ∙ ap (λ (j : Key). holds j y) (sym (same_true (key_of s) k p)) ∙ e)
 
 place-clash : (n : ℕ) (x y : Slot) → clash x y ≡ false → at_place n x ≡ true → at_place n y ≡ true → ⊥
 place-clash n Empty y e p q = false≢true p
-place-clash n (Pending s r) y e p q = true≢false (sym q ∙ ap (λ (m : ℕ). at_place m y) (sym (eqb-true r n p)) ∙ (or-false-to (holds (key_of s) y) (at_place r y) e).1)
+place-clash n (Pending s r) y e p q = true≢false (sym q ∙ ap (λ (m : ℕ). at_place m y) (sym (eqb-true r n p)) ∙ (or_false_to (holds (key_of s) y) (at_place r y) e).1)
 place-clash n (Ready s r) y e p q = false≢true p
 place-clash n (Old s r) y e p q = false≢true p
 
@@ -52,38 +52,38 @@ not_so : (b : Bool) → (b ≡ true → ⊥) → b ≡ false
 not_so true f = absurd (f refl)
 not_so false f = refl
 
-no-clash : (x y : Slot) → ((k : Key) → holds k x ≡ true → holds k y ≡ true → ⊥) → ((n : ℕ) → at_place n x ≡ true → at_place n y ≡ true → ⊥) → clash x y ≡ false
-no-clash Empty y f g = refl
-no-clash (Pending s r) y f g =
+no_clash : (x y : Slot) → ((k : Key) → holds k x ≡ true → holds k y ≡ true → ⊥) → ((n : ℕ) → at_place n x ≡ true → at_place n y ≡ true → ⊥) → clash x y ≡ false
+no_clash Empty y f g = refl
+no_clash (Pending s r) y f g =
     ap (λ (b : Bool). b || at_place r y) (not_so (holds (key_of s) y) (f (key_of s) (same_refl (key_of s)))) ∙ not_so (at_place r y) (g r (eq-eqb r r refl))
-no-clash (Ready s r) y f g = not_so (holds (key_of s) y) (f (key_of s) (same_refl (key_of s)))
-no-clash (Old s r) y f g = not_so (holds (key_of s) y) (f (key_of s) (same_refl (key_of s)))
+no_clash (Ready s r) y f g = not_so (holds (key_of s) y) (f (key_of s) (same_refl (key_of s)))
+no_clash (Old s r) y f g = not_so (holds (key_of s) y) (f (key_of s) (same_refl (key_of s)))
 
 -- ---- all slots, two by two
 
 module _ (d : Slot) where
-  any-to : (x : Slot) (l : List Slot) → clash_any x l ≡ false → (j : ℕ) → j < length l → clash x (get_or l j d) ≡ false
-  any-to x [] e j h = absurd (not-suc-le-zero h)
-  any-to x (y ∷ l) e zero h = (or-false-to (clash x y) (clash_any x l) e).0
-  any-to x (y ∷ l) e (suc j) h = any-to x l (or-false-to (clash x y) (clash_any x l) e).1 j (le_of_suc-le-suc h)
+  any_to : (x : Slot) (l : List Slot) → clash_any x l ≡ false → (j : ℕ) → j < length l → clash x (get_or l j d) ≡ false
+  any_to x [] e j h = absurd (not-suc-le-zero h)
+  any_to x (y ∷ l) e zero h = (or_false_to (clash x y) (clash_any x l) e).0
+  any_to x (y ∷ l) e (suc j) h = any_to x l (or_false_to (clash x y) (clash_any x l) e).1 j (le_of_suc-le-suc h)
 
   any_of : (x : Slot) (l : List Slot) → ((j : ℕ) → j < length l → clash x (get_or l j d) ≡ false) → clash_any x l ≡ false
   any_of x [] f = refl
   any_of x (y ∷ l) f = ap (λ (b : Bool). b || clash_any x l) (f 0 (suc-le-suc zero-le)) ∙ any_of x l (λ j h. f (suc j) (suc-le-suc h))
 
-  clashing-to : (l : List Slot) → clashing l ≡ false → (i j : ℕ) → i < j → j < length l → clash (get_or l i d) (get_or l j d) ≡ false
+  clashing_to : (l : List Slot) → clashing l ≡ false → (i j : ℕ) → i < j → j < length l → clash (get_or l i d) (get_or l j d) ≡ false
   unfolding clashing
-  clashing-to [] e i j k h = absurd (not-suc-le-zero h)
-  clashing-to (x ∷ l) e i zero k h = absurd (not-suc-le-zero k)
-  clashing-to (x ∷ l) e zero (suc j) k h = any-to x l (or-false-to (clash_any x l) (clashing l) e).0 j (le_of_suc-le-suc h)
-  clashing-to (x ∷ l) e (suc i) (suc j) k h = clashing-to l (or-false-to (clash_any x l) (clashing l) e).1 i j (le_of_suc-le-suc k) (le_of_suc-le-suc h)
+  clashing_to [] e i j k h = absurd (not-suc-le-zero h)
+  clashing_to (x ∷ l) e i zero k h = absurd (not-suc-le-zero k)
+  clashing_to (x ∷ l) e zero (suc j) k h = any_to x l (or_false_to (clash_any x l) (clashing l) e).0 j (le_of_suc-le-suc h)
+  clashing_to (x ∷ l) e (suc i) (suc j) k h = clashing_to l (or_false_to (clash_any x l) (clashing l) e).1 i j (le_of_suc-le-suc k) (le_of_suc-le-suc h)
 
-  clashing-of : (l : List Slot) → ((i j : ℕ) → i < j → j < length l → clash (get_or l i d) (get_or l j d) ≡ false) → clashing l ≡ false
+  clashing_of : (l : List Slot) → ((i j : ℕ) → i < j → j < length l → clash (get_or l i d) (get_or l j d) ≡ false) → clashing l ≡ false
   unfolding clashing
-  clashing-of [] f = refl
-  clashing-of (x ∷ l) f =
+  clashing_of [] f = refl
+  clashing_of (x ∷ l) f =
       ap (λ (b : Bool). b || clashing l) (any_of x l (λ j h. f 0 (suc j) (suc-le-suc zero-le) (suc-le-suc h)))
-      ∙ clashing-of l (λ i j k h. f (suc i) (suc j) (suc-le-suc k) (suc-le-suc h))
+      ∙ clashing_of l (λ i j k h. f (suc i) (suc j) (suc-le-suc k) (suc-le-suc h))
 
 -- ---- what the test says of the buffers
 
@@ -97,28 +97,28 @@ apart_from f n bs g i j p q = go (dec_lt i j) (dec_lt j i)
     go (no h) (no k) = omega arith
 
 module _ (bs : List Buffer) where
-  slots-long : length (slots_in bs) ≡ length bs
-  slots-long = length-map bs (λ (b : Buffer). b.slot)
+  slots_long : length (slots_in bs) ≡ length bs
+  slots_long = length-map bs (λ (b : Buffer). b.slot)
 
   module _ (e : clashing (slots_in bs) ≡ false) where
-    two-apart : (i j : ℕ) → i < j → j < length bs → clash (at bs i).slot (at bs j).slot ≡ false
-    two-apart i j h k =
+    two_apart : (i j : ℕ) → i < j → j < length bs → clash (at bs i).slot (at bs j).slot ≡ false
+    two_apart i j h k =
         subst (λ (x : Slot). clash x (at bs j).slot ≡ false) (slot_at bs i)
         (subst (λ (y : Slot). clash (get_or (slots_in bs) i Empty) y ≡ false) (slot_at bs j)
-        (clashing-to Empty (slots_in bs) e i j h (subst (λ (m : ℕ). j < m) (sym slots-long) k)))
+        (clashing_to Empty (slots_in bs) e i j h (subst (λ (m : ℕ). j < m) (sym slots_long) k)))
 
-    pub keys-to : (k : Key) → Apart (holds k) bs
-    keys-to k = apart_from (holds k) refl bs (λ i j h l p q. key-clash k (at bs i).slot (at bs j).slot (two-apart i j h l) p q)
+    pub keys_to : (k : Key) → Apart (holds k) bs
+    keys_to k = apart_from (holds k) refl bs (λ i j h l p q. key-clash k (at bs i).slot (at bs j).slot (two_apart i j h l) p q)
 
-    pub places-to : (p : ℕ) → Apart (at_place p) bs
-    places-to n = apart_from (at_place n) refl bs (λ i j h l p q. place-clash n (at bs i).slot (at bs j).slot (two-apart i j h l) p q)
+    pub places_to : (p : ℕ) → Apart (at_place p) bs
+    places_to n = apart_from (at_place n) refl bs (λ i j h l p q. place-clash n (at bs i).slot (at bs j).slot (two_apart i j h l) p q)
 
-  pub clashing-from : ((k : Key) → Apart (holds k) bs) → ((p : ℕ) → Apart (at_place p) bs) → clashing (slots_in bs) ≡ false
-  clashing-from f g =
-      clashing-of Empty (slots_in bs)
+  pub clashing_from : ((k : Key) → Apart (holds k) bs) → ((p : ℕ) → Apart (at_place p) bs) → clashing (slots_in bs) ≡ false
+  clashing_from f g =
+      clashing_of Empty (slots_in bs)
       (λ i j h k. subst (λ (x : Slot). clash x (get_or (slots_in bs) j Empty) ≡ false) (sym (slot_at bs i))
       (subst (λ (y : Slot). clash (at bs i).slot y ≡ false) (sym (slot_at bs j))
-      (no-clash (at bs i).slot (at bs j).slot (λ k p q. apart i j h (f k i j p q)) (λ n p q. apart i j h (g n i j p q)))))
+      (no_clash (at bs i).slot (at bs j).slot (λ k p q. apart i j h (f k i j p q)) (λ n p q. apart i j h (g n i j p q)))))
     where
       apart : (i j : ℕ) → i < j → i ≡ j → ⊥
       apart i j h e = omega arith
@@ -145,13 +145,13 @@ low_again Idle = refl
 low_again (Running n) = refl
 low_again Abandoned = refl
 
-pub low-of : (l : LowSide) → low_fits (low_byte l) (running_byte l) ≡ true
-low-of Idle = refl
-low-of (Running n) = refl
-low-of Abandoned = refl
+pub low_of_lem : (l : LowSide) → low_fits (low_byte l) (running_byte l) ≡ true
+low_of_lem Idle = refl
+low_of_lem (Running n) = refl
+low_of_lem Abandoned = refl
 
-pub low-back : (k n : ℕ) → low_fits k n ≡ true → (low_byte (low_of k n) ≡ k) × (running_byte (low_of k n) ≡ n)
-low-back k n e = go (eqb k 1) refl (eqb k 2) refl e
+pub low_back : (k n : ℕ) → low_fits k n ≡ true → (low_byte (low_of k n) ≡ k) × (running_byte (low_of k n) ≡ n)
+low_back k n e = go (eqb k 1) refl (eqb k 2) refl e
   where
     go : (a : Bool) → eqb k 1 ≡ a → (b : Bool) → eqb k 2 ≡ b → a || (ltb k 3 && eqb n 0) ≡ true
         → (low_byte (cond a (Running (record { 0 = n })) (cond b Abandoned Idle)) ≡ k) × (running_byte (cond a (Running (record { 0 = n })) (cond b Abandoned Idle)) ≡ n)

@@ -88,85 +88,85 @@ waiting_out p = record { slot = Pending (split Zero pid.Out Bulk 5 1) 0; payload
 pub record NumbersAsked : Type 0 where
   -- N ports, 1 to 7; B buffers, 2 to 4; power-good time and current 0 to 255; removable with bit 0 and bits above N zero
   pub kept : ValidHub (hub_of 4 3 50 100 30)
-  pub no-port : ¬ (ValidHub (hub_of 0 3 50 100 0))
-  pub eight-ports : ¬ (ValidHub (hub_of 8 3 50 100 30))
-  pub one-buffer : ¬ (ValidHub (hub_of 4 1 50 100 30))
-  pub five-buffers : ¬ (ValidHub (hub_of 4 5 50 100 30))
-  pub power-good : ¬ (ValidHub (hub_of 4 3 256 100 30))
+  pub no_port : ¬ (ValidHub (hub_of 0 3 50 100 0))
+  pub eight_ports : ¬ (ValidHub (hub_of 8 3 50 100 30))
+  pub one_buffer : ¬ (ValidHub (hub_of 4 1 50 100 30))
+  pub five_buffers : ¬ (ValidHub (hub_of 4 5 50 100 30))
+  pub power_good : ¬ (ValidHub (hub_of 4 3 256 100 30))
   pub current : ¬ (ValidHub (hub_of 4 3 50 256 30))
-  pub removable-bit-0 : ¬ (ValidHub (hub_of 4 3 50 100 31))
-  pub removable-above : ¬ (ValidHub (hub_of 4 3 50 100 62))
+  pub removable_bit_0 : ¬ (ValidHub (hub_of 4 3 50 100 31))
+  pub removable_above : ¬ (ValidHub (hub_of 4 3 50 100 62))
   -- device address 0 to 127; endpoint 0 to 15
   pub largest : ValidHub (with_buffer (waiting_in 0 127 15))
-  pub address-128 : ¬ (ValidHub (with_buffer (waiting_in 0 128 15)))
-  pub endpoint-16 : ¬ (ValidHub (with_buffer (waiting_in 0 127 16)))
+  pub address_128 : ¬ (ValidHub (with_buffer (waiting_in 0 128 15)))
+  pub endpoint_16 : ¬ (ValidHub (with_buffer (waiting_in 0 127 16)))
 
 pub record PayloadsAsked : Type 0 where
   -- IN carries none, SETUP is control with 8 bytes
   pub setup : ValidHub (with_buffer (pending_at 0 (split Zero pid.Setup Control 5 0) (replicate 8 1)))
-  pub setup-bulk : ¬ (ValidHub (with_buffer (pending_at 0 (split Zero pid.Setup Bulk 5 0) (replicate 8 1))))
-  pub setup-7-bytes : ¬ (ValidHub (with_buffer (pending_at 0 (split Zero pid.Setup Control 5 0) (replicate 7 1))))
-  pub in-with-payload : ¬ (ValidHub (with_buffer (pending_at 0 (split Zero pid.In Bulk 5 1) (1 ∷ []))))
+  pub setup_bulk : ¬ (ValidHub (with_buffer (pending_at 0 (split Zero pid.Setup Bulk 5 0) (replicate 8 1))))
+  pub setup_7_bytes : ¬ (ValidHub (with_buffer (pending_at 0 (split Zero pid.Setup Control 5 0) (replicate 7 1))))
+  pub in_with_payload : ¬ (ValidHub (with_buffer (pending_at 0 (split Zero pid.In Bulk 5 1) (1 ∷ []))))
   -- payload 0 to 64 bytes
-  pub sixty-four : ValidHub (with_buffer (waiting_out (payload_of (replicate 64 1))))
-  pub sixty-five : ¬ (ValidHub (with_buffer (waiting_out (record { len = 65; bytes = replicate 64 1 }))))
+  pub sixty_four : ValidHub (with_buffer (waiting_out (payload_of (replicate 64 1))))
+  pub sixty_five : ¬ (ValidHub (with_buffer (waiting_out (record { len = 65; bytes = replicate 64 1 }))))
   -- no payload on a result that isn't data
-  pub data-payload : ValidHub (with_buffer (ready (split Zero pid.In Bulk 5 1) Data0 (1 ∷ [])))
-  pub nak-payload : ¬ (ValidHub (with_buffer (ready (split Zero pid.In Bulk 5 1) Nak (1 ∷ []))))
-  pub old-nak-payload : ¬ (ValidHub (with_buffer (old (split Zero pid.In Bulk 5 1) Nak (1 ∷ []))))
+  pub data_payload : ValidHub (with_buffer (ready (split Zero pid.In Bulk 5 1) Data0 (1 ∷ [])))
+  pub nak_payload : ¬ (ValidHub (with_buffer (ready (split Zero pid.In Bulk 5 1) Nak (1 ∷ []))))
+  pub old_nak_payload : ¬ (ValidHub (with_buffer (old (split Zero pid.In Bulk 5 1) Nak (1 ∷ []))))
   -- what a buffer doesn't have is zero: the bytes behind a payload, and an empty buffer's payload
-  pub zeros-behind : ValidHub (with_buffer (waiting_out (record { len = 1; bytes = 1 ∷ replicate 63 0 })))
-  pub byte-behind : ¬ (ValidHub (with_buffer (waiting_out (record { len = 1; bytes = 1 ∷ 1 ∷ replicate 62 0 }))))
-  pub empty-payload : ¬ (ValidHub (with_buffer (record { slot = Empty; payload = payload_of (1 ∷ []) })))
+  pub zeros_behind : ValidHub (with_buffer (waiting_out (record { len = 1; bytes = 1 ∷ replicate 63 0 })))
+  pub byte_behind : ¬ (ValidHub (with_buffer (waiting_out (record { len = 1; bytes = 1 ∷ 1 ∷ replicate 62 0 }))))
+  pub empty_payload : ¬ (ValidHub (with_buffer (record { slot = Empty; payload = payload_of (1 ∷ []) })))
 
 pub record TimersAsked : Type 0 where
-  pub resetting-14 : ValidHub (with_port (port_with (Resetting Full 14) false))
-  pub resetting-15 : ¬ (ValidHub (with_port (port_with (Resetting Full 15) false)))
-  pub resuming-21 : ValidHub (with_port (port_with (Resuming Full 21) false))
-  pub resuming-22 : ¬ (ValidHub (with_port (port_with (Resuming Full 22) false)))
+  pub resetting_14 : ValidHub (with_port (port_with (Resetting Full 14) false))
+  pub resetting_15 : ¬ (ValidHub (with_port (port_with (Resetting Full 15) false)))
+  pub resuming_21 : ValidHub (with_port (port_with (Resuming Full 21) false))
+  pub resuming_22 : ¬ (ValidHub (with_port (port_with (Resuming Full 22) false)))
 
 pub record BuffersAsked : Type 0 where
   -- no key held twice: pending, or one of them old
   pub other_key : ValidHub (holding (waiting_in 0 5 1) (waiting_in 1 6 1) vacant Idle)
   pub same_key : ¬ (ValidHub (holding (waiting_in 0 5 1) (waiting_in 1 5 1) vacant Idle))
-  pub same-key-old : ¬ (ValidHub (holding (waiting_in 0 5 1) (old (split Zero pid.In Bulk 5 1) Nak []) vacant Idle))
+  pub same_key_old : ¬ (ValidHub (holding (waiting_in 0 5 1) (old (split Zero pid.In Bulk 5 1) Nak []) vacant Idle))
   -- keys that differ in the direction alone, or in the lane alone
-  pub other-direction : ValidHub (holding (waiting_in 0 5 1) (pending_at 1 (split Zero pid.Out Bulk 5 1) []) vacant Idle)
-  pub other-lane : ValidHub (holding (waiting_in 0 5 1) (pending_at 1 (split One pid.In Bulk 5 1) []) vacant Idle)
+  pub other_direction : ValidHub (holding (waiting_in 0 5 1) (pending_at 1 (split Zero pid.Out Bulk 5 1) []) vacant Idle)
+  pub other_lane : ValidHub (holding (waiting_in 0 5 1) (pending_at 1 (split One pid.In Bulk 5 1) []) vacant Idle)
   -- no place held twice
   pub same_place : ¬ (ValidHub (holding (waiting_in 0 5 1) (waiting_in 0 6 1) vacant Idle))
   -- a running transaction, itself pending unless abandoned
   pub running : ValidHub (holding (waiting_in 0 5 1) vacant vacant (Running (record { 0 = 0 })))
-  pub running-ready : ¬ (ValidHub (holding (ready (split Zero pid.In Bulk 5 1) Nak []) vacant vacant (Running (record { 0 = 0 }))))
-  pub running-empty : ¬ (ValidHub (holding (waiting_in 0 5 1) vacant vacant (Running (record { 0 = 1 }))))
-  pub running-nowhere : ¬ (ValidHub (holding (waiting_in 0 5 1) vacant vacant (Running (record { 0 = 3 }))))
+  pub running_ready : ¬ (ValidHub (holding (ready (split Zero pid.In Bulk 5 1) Nak []) vacant vacant (Running (record { 0 = 0 }))))
+  pub running_empty : ¬ (ValidHub (holding (waiting_in 0 5 1) vacant vacant (Running (record { 0 = 1 }))))
+  pub running_nowhere : ¬ (ValidHub (holding (waiting_in 0 5 1) vacant vacant (Running (record { 0 = 3 }))))
   pub abandoned : ValidHub (holding vacant vacant vacant Abandoned)
   -- C-18: no lane holds all B buffers pending or ready
-  pub two-of-three : ValidHub (holding (waiting_in 0 5 1) (waiting_in 1 6 1) (pending_at 2 (split One pid.In Bulk 7 1) []) Idle)
-  pub all-pending : ¬ (ValidHub (holding (waiting_in 0 5 1) (waiting_in 1 6 1) (waiting_in 2 7 1) Idle))
+  pub two_of_three : ValidHub (holding (waiting_in 0 5 1) (waiting_in 1 6 1) (pending_at 2 (split One pid.In Bulk 7 1) []) Idle)
+  pub all_pending : ¬ (ValidHub (holding (waiting_in 0 5 1) (waiting_in 1 6 1) (waiting_in 2 7 1) Idle))
   pub all_held : ¬ (ValidHub (holding (waiting_in 0 5 1) (waiting_in 1 6 1) (ready (split Zero pid.In Bulk 7 1) Nak []) Idle))
 
 pub record ConfigurationAsked : Type 0 where
-  pub none-not-configured : ValidHub (with_port (port_with PoweredOff false))
-  pub one-not-configured : ¬ (ValidHub (with_port (port_with NotConfigured false)))
-  pub all-not-configured : ValidHub (unconfigured (port_with NotConfigured false))
-  pub one-powered-off : ¬ (ValidHub (unconfigured (port_with PoweredOff false)))
+  pub none_not_configured : ValidHub (with_port (port_with PoweredOff false))
+  pub one_not_configured : ¬ (ValidHub (with_port (port_with NotConfigured false)))
+  pub all_not_configured : ValidHub (unconfigured (port_with NotConfigured false))
+  pub one_powered_off : ¬ (ValidHub (unconfigured (port_with PoweredOff false)))
 
 -- ---- what no clause excludes is taken, though no new hub comes to it
 
 pub record OthersTaken : Type 0 where
   -- a result that doesn't suit the PID
-  pub in-ack : ValidHub (with_buffer (ready (split Zero pid.In Bulk 5 1) Ack []))
-  pub out-data : ValidHub (with_buffer (old (split Zero pid.Out Bulk 5 1) Data0 (1 ∷ 2 ∷ 3 ∷ [])))
+  pub in_ack : ValidHub (with_buffer (ready (split Zero pid.In Bulk 5 1) Ack []))
+  pub out_data : ValidHub (with_buffer (old (split Zero pid.Out Bulk 5 1) Data0 (1 ∷ 2 ∷ 3 ∷ [])))
   -- power on under over-current
   pub powered : ValidHub (with_port (port_with Disconnected true))
   -- a running transaction that isn't the one stored earliest
-  pub later-runs : ValidHub (holding (waiting_in 0 5 1) (waiting_in 1 6 1) vacant (Running (record { 0 = 1 })))
+  pub later_runs : ValidHub (holding (waiting_in 0 5 1) (waiting_in 1 6 1) vacant (Running (record { 0 = 1 })))
   -- places that are no ranks
-  pub far-place : ValidHub (with_buffer (waiting_in 200 5 1))
+  pub far_place : ValidHub (with_buffer (waiting_in 200 5 1))
   -- an unconfigured hub that holds buffers, whose transaction runs, or that has an over-current level
-  pub held-unconfigured : ValidHub (hub_with false (port_with NotConfigured false) NotConfigured (waiting_in 0 5 1) (old (split One pid.In Bulk 5 1) Nak []) vacant (Running (record { 0 = 0 })))
-  pub level-unconfigured : ValidHub (unconfigured (port_with NotConfigured true))
+  pub held_unconfigured : ValidHub (hub_with false (port_with NotConfigured false) NotConfigured (waiting_in 0 5 1) (old (split One pid.In Bulk 5 1) Nak []) vacant (Running (record { 0 = 0 })))
+  pub level_unconfigured : ValidHub (unconfigured (port_with NotConfigured true))
 
 -- ---- "A new hub is made from N, B, power-good time, hub current (both 0 to 255) and a removable byte whose bit 0 and bits above N are
 -- zero"
@@ -174,15 +174,15 @@ pub record OthersTaken : Type 0 where
 pub record NewNumbers : Type 0 where
   pub least : new_fits 1 2 0 0 0 ≡ true
   pub most : new_fits 7 4 255 255 0xFE ≡ true
-  pub no-port : new_fits 0 2 0 0 0 ≡ false
-  pub eight-ports : new_fits 8 2 0 0 0 ≡ false
-  pub one-buffer : new_fits 4 1 0 0 0 ≡ false
-  pub five-buffers : new_fits 4 5 0 0 0 ≡ false
-  pub power-good : new_fits 4 2 256 0 0 ≡ false
+  pub no_port : new_fits 0 2 0 0 0 ≡ false
+  pub eight_ports : new_fits 8 2 0 0 0 ≡ false
+  pub one_buffer : new_fits 4 1 0 0 0 ≡ false
+  pub five_buffers : new_fits 4 5 0 0 0 ≡ false
+  pub power_good : new_fits 4 2 256 0 0 ≡ false
   pub current : new_fits 4 2 0 256 0 ≡ false
-  pub removable-bit-0 : new_fits 4 2 0 0 1 ≡ false
-  pub removable-bit-4 : new_fits 4 2 0 0 0x10 ≡ true
-  pub removable-bit-5 : new_fits 4 2 0 0 0x20 ≡ false
+  pub removable_bit_0 : new_fits 4 2 0 0 1 ≡ false
+  pub removable_bit_4 : new_fits 4 2 0 0 0x10 ≡ true
+  pub removable_bit_5 : new_fits 4 2 0 0 0x20 ≡ false
 
 pub record ValidCases : Type 0 where
   pub numbers : NumbersAsked

@@ -15,7 +15,7 @@ pub record AreaExact : Type 0 where
   pub again : (h : Hub) → ValidHub h → read_of (written h) ≡ record { ok = true; hub = h }
   -- each state has one written form of its own
   pub one_form : (h g : Hub) → ValidHub h → ValidHub g → written h ≡ written g → h ≡ g
-  pub written-length : (h : Hub) → ValidHub h → length (written h) ≡ area_length h.identity.ports h.translator.count
+  pub written_length : (h : Hub) → ValidHub h → length (written h) ≡ area_length h.identity.ports h.translator.count
   -- writing over an area of that length gives the written form, and over any other changes nothing
   pub writes : (h : Hub) (a : List ℕ) → ValidHub h → length a ≡ area_length h.identity.ports h.translator.count → written_over h a ≡ written h
   pub keeps : (h : Hub) (a : List ℕ) → ValidHub h → ¬ (length a ≡ area_length h.identity.ports h.translator.count) → written_over h a ≡ a

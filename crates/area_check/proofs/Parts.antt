@@ -35,9 +35,9 @@ far : (n k : ℕ) → k ≤ 8 → ¬ (n ≤ 7) → k ≤ n
 far n k h f = omega arith
 
 -- no state has a number from 8 on
-pub state-none : (g : Bool) (s v t : ℕ)
+pub state_none : (g : Bool) (s v t : ℕ)
     → ¬ (s ≡ 0) → ¬ (s ≡ 1) → ¬ (s ≡ 2) → ¬ (s ≡ 3) → ¬ (s ≡ 4) → ¬ (s ≡ 5) → ¬ (s ≡ 6) → ¬ (s ≡ 7) → false ≡ state_fits g s v t
-state-none g s v t n₀ n₁ n₂ n₃ n₄ n₅ n₆ n₇ = go (dec_le s 7) (λ h. n₇ (seven s h n₀ n₁ n₂ n₃ n₄ n₅ n₆))
+state_none g s v t n₀ n₁ n₂ n₃ n₄ n₅ n₆ n₇ = go (dec_le s 7) (λ h. n₇ (seven s h n₀ n₁ n₂ n₃ n₄ n₅ n₆))
   where
     go : Dec (s ≤ 7) → ¬ (s ≤ 7) → false ≡ state_fits g s v t
     go (yes h) f = absurd (f h)
@@ -46,8 +46,8 @@ state-none g s v t n₀ n₁ n₂ n₃ n₄ n₅ n₆ n₇ = go (dec_le s 7) (λ
 -- ---- a start-split and a result
 
 -- SETUP is control
-pub type-control : (t : ℕ) → eqb t 0 ≡ is_type t && type_fits pid.Setup (type_from t)
-type-control t = go (eqb t 0) (eqb t 2) (λ e. ap (λ (n : ℕ). eqb n 2) (eqb-true t 0 e))
+pub type_control : (t : ℕ) → eqb t 0 ≡ is_type t && type_fits pid.Setup (type_from t)
+type_control t = go (eqb t 0) (eqb t 2) (λ e. ap (λ (n : ℕ). eqb n 2) (eqb-true t 0 e))
   where
     go : (a b : Bool) → (a ≡ true → b ≡ false) → a ≡ (a || b) && type_fits pid.Setup (cond b Bulk Control)
     go true true f = f refl
@@ -56,8 +56,8 @@ type-control t = go (eqb t 0) (eqb t 2) (λ e. ap (λ (n : ℕ). eqb n 2) (eqb-t
     go false false f = refl
 
 -- only data has a payload
-pub none-long : (n : ℕ) → leb n 64 && eqb n 0 ≡ eqb n 0
-none-long n = go (eqb n 0) refl
+pub none_long : (n : ℕ) → leb n 64 && eqb n 0 ≡ eqb n 0
+none_long n = go (eqb n 0) refl
   where
     go : (b : Bool) → eqb n 0 ≡ b → leb n 64 && b ≡ b
     go true e = rw (eqb-true n 0 e)
@@ -74,9 +74,9 @@ three P a b c (suc (suc (suc zero))) h d = c
 three P a b c (suc (suc (suc (suc n)))) h d = absurd (omega (arith, h))
 
 -- an empty buffer is zeros behind its status
-pub empty-end : (l : List ℕ) → length l ≡ 72 → get_or l 0 0 ≡ 0 → blank (drop 1 l) ≡ buffer_fits l
+pub empty_end : (l : List ℕ) → length l ≡ 72 → get_or l 0 0 ≡ 0 → blank (drop 1 l) ≡ buffer_fits l
 unfolding buffer_fits names_fit slot_of
-empty-end l n z =
+empty_end l n z =
     rw (z, blank_step l 1 (omega arith), blank_step l 2 (omega arith), blank_step l 3 (omega arith), blank_step l 4 (omega arith), blank_step l 5 (omega arith), blank_step l 6 (omega arith), blank_step l 7 (omega arith))
     (simp (and_assoc, short (get_or l 7 0)))
   where
@@ -141,7 +141,7 @@ module _ (l : List ℕ) where
           let c : s ≡ 3 → ⊥ = λ e. omega arith in
           rw (le-ltb s 4 f, ne_eqb s 1 a, ne_eqb s 2 b, ne_eqb s 3 c) (sym (and-false split_tests))
 
-  pub held-end : ¬ (get_or l 0 0 ≡ 0) → buffer_fits l ≡ (split_tests && held_tests (get_or l 0 0)) && blank (drop (8 + get_or l 7 0) l)
+  pub held_end : ¬ (get_or l 0 0 ≡ 0) → buffer_fits l ≡ (split_tests && held_tests (get_or l 0 0)) && blank (drop (8 + get_or l 7 0) l)
   unfolding buffer_fits names_fit slot_of
-  held-end d =
+  held_end d =
       rw (ne_eqb (get_or l 0 0) 0 d) (ap (λ (b : Bool). b && blank (drop (8 + get_or l 7 0) l)) (tested (get_or l 0 0) d))

@@ -16,8 +16,8 @@ use Rattle.payload.specs.Bytes.{flat}
 use Rattle.area_check.specs.Rows.{parts, every, blank}
 
 -- the i-th of n parts of k bytes has k bytes
-pub part-size : (i n k : ℕ) (o : List ℕ) → i < n → length o ≡ n * k → length (take (i * k + k - i * k) (drop (i * k) o)) ≡ k
-part-size i n k o h s =
+pub part_size : (i n k : ℕ) (o : List ℕ) → i < n → length o ≡ n * k → length (take (i * k + k - i * k) (drop (i * k) o)) ≡ k
+part_size i n k o h s =
     let m : (i + 1) * k ≤ n * k = mul-le-mul_right k (omega arith) in
     rw add-sub_cancel_left (length-take-le k (drop (i * k) o) (simp length-drop (omega (arith, add-mul i 1 k))))
 
@@ -33,10 +33,10 @@ module _ {A : Type 0} (dec : List ℕ → A) (k : ℕ) where
       ∙ ap (λ (m : List ℕ). parts dec k i (drop k l) ++ (dec (take k m) ∷ []))
       (drop-drop (i * k) k l ∙ ap (λ (n : ℕ). drop n l) (add_comm k (i * k) ∙ sym (suc-mul i k))))
 
-  pub parts-length : (n : ℕ) (l : List ℕ) → length (parts dec k n l) ≡ n
+  pub parts_length : (n : ℕ) (l : List ℕ) → length (parts dec k n l) ≡ n
   unfolding parts
-  parts-length zero l = refl
-  parts-length (suc n) l = ap suc (parts-length n (drop k l))
+  parts_length zero l = refl
+  parts_length (suc n) l = ap suc (parts_length n (drop k l))
 
   pub parts_at : (n i : ℕ) (l : List ℕ) (d : A) → i < n → get_or (parts dec k n l) i d ≡ dec (take k (drop (i * k) l))
   unfolding parts
@@ -47,15 +47,15 @@ module _ {A : Type 0} (dec : List ℕ → A) (k : ℕ) where
       ∙ ap (λ (m : List ℕ). dec (take k m)) (drop-drop (i * k) k l ∙ ap (λ (j : ℕ). drop j l) (add_comm k (i * k) ∙ sym (suc-mul i k)))
 
   -- a turn of the loop that reads a row, which was row₀: v is stored at i
-  pub get-turn : (row₀ row : List A) (v : A) (i : ℕ) (l : List ℕ) → i < length row₀ → row ≡ parts dec k i l ++ drop i row₀
+  pub get_turn : (row₀ row : List A) (v : A) (i : ℕ) (l : List ℕ) → i < length row₀ → row ≡ parts dec k i l ++ drop i row₀
       → v ≡ dec (take (i * k + k - i * k) (drop (i * k) l)) → set row i v ≡ parts dec k (i + 1) l ++ drop (i + 1) row₀
-  get-turn row₀ row v i l h e q =
+  get_turn row₀ row v i l h e q =
       let n : parts dec k (i + 1) l ≡ parts dec k i l ++ (v ∷ []) =
       ap (λ (m : ℕ). parts dec k m l) (add-one i)
       ∙ parts_more i l
       ∙ ap (λ (w : A). parts dec k i l ++ (w ∷ [])) (sym (q ∙ ap (λ (n : ℕ). dec (take n (drop (i * k) l))) (add-sub_cancel_left (i * k) k))) in
       ap (λ (r : List A). set r i v) (e ∙ ap (λ (r : List A). parts dec k i l ++ r) (drop-cons row₀ i v h))
-      ∙ set_at (parts dec k i l) (get_or row₀ i v) (drop (suc i) row₀) v i (parts-length i l)
+      ∙ set_at (parts dec k i l) (get_or row₀ i v) (drop (suc i) row₀) v i (parts_length i l)
       ∙ sym (append_assoc (parts dec k i l) (v ∷ []) (drop (suc i) row₀))
       ∙ ap (λ (r : List A). r ++ drop (suc i) row₀) (sym n)
       ∙ ap (λ (m : ℕ). parts dec k (i + 1) l ++ drop m row₀) (sym (add-one i))
@@ -68,9 +68,9 @@ module _ {A : Type 0} (enc : A → List ℕ) where
   flat_append [] ys = refl
   flat_append (x ∷ xs) ys = ap (λ (r : List ℕ). enc x ++ r) (flat_append xs ys) ∙ sym (append_assoc (enc x) (flat enc xs) (flat enc ys))
 
-  pub flat-more : (xs : List A) (i : ℕ) (d : A) → i < length xs → flat enc (take (i + 1) xs) ≡ flat enc (take i xs) ++ enc (get_or xs i d)
+  pub flat_more : (xs : List A) (i : ℕ) (d : A) → i < length xs → flat enc (take (i + 1) xs) ≡ flat enc (take i xs) ++ enc (get_or xs i d)
   unfolding flat
-  flat-more xs i d h =
+  flat_more xs i d h =
       ap (λ (n : ℕ). flat enc (take n xs)) (add-one i)
       ∙ ap (flat enc) (take-suc xs i d h)
       ∙ flat_append (take i xs) (get_or xs i d ∷ [])
@@ -81,18 +81,18 @@ module _ {A : Type 0} (enc : A → List ℕ) where
     pub bytes : o ≡ flat enc (take i xs) ++ drop (i * k) o₀
     pub count : length (flat enc (take i xs)) ≡ i * k
 
-  pub put-start : (k : ℕ) (xs : List A) (o₀ : List ℕ) → Put k xs o₀ o₀ 0
+  pub put_start : (k : ℕ) (xs : List A) (o₀ : List ℕ) → Put k xs o₀ o₀ 0
   unfolding flat
-  put-start k xs o₀ = record { bytes = ap (λ (n : ℕ). drop n o₀) (sym (zero-mul k)); count = sym (zero-mul k) }
+  put_start k xs o₀ = record { bytes = ap (λ (n : ℕ). drop n o₀) (sym (zero-mul k)); count = sym (zero-mul k) }
 
-  put-turn·at : (k : ℕ) (xs : List A) (d : A) (o₀ o b : List ℕ) (i : ℕ) → i < length xs → b ≡ enc (get_or xs i d) → length b ≡ k → Put k xs o₀ o i
+  put_turn·at : (k : ℕ) (xs : List A) (d : A) (o₀ o b : List ℕ) (i : ℕ) → i < length xs → b ≡ enc (get_or xs i d) → length b ≡ k → Put k xs o₀ o i
       → Put k xs o₀ (put_mid (i * k) k o b) (i + 1)
-  put-turn·at k xs d o₀ o b i h e s p =
+  put_turn·at k xs d o₀ o b i h e s p =
       let f : List ℕ = flat enc (take i xs) in
       let m : (i + 1) * k ≡ i * k + k = ap (λ (n : ℕ). n * k) (add-one i) ∙ suc-mul i k in
       let front : take (i * k) o ≡ f = ap (take (i * k)) p.bytes ∙ take_at f (drop (i * k) o₀) (i * k) p.count in
       let back : drop (i * k) o ≡ drop (i * k) o₀ = ap (drop (i * k)) p.bytes ∙ drop_at f (drop (i * k) o₀) (i * k) p.count in
-      let more : flat enc (take (i + 1) xs) ≡ f ++ b = flat-more xs i d h ∙ ap (λ (r : List ℕ). f ++ r) (sym e) in
+      let more : flat enc (take (i + 1) xs) ≡ f ++ b = flat_more xs i d h ∙ ap (λ (r : List ℕ). f ++ r) (sym e) in
       record {
         bytes =
             ap (λ (r : List ℕ). r ++ (b ++ drop k (drop (i * k) o))) front
@@ -108,13 +108,13 @@ module _ {A : Type 0} (enc : A → List ℕ) where
       }
 
   -- a turn of the loop that writes a row: the element's bytes take the place of those from i * k to i * k + k
-  pub put-turn : (k : ℕ) (xs : List A) (d : A) (o₀ o b : List ℕ) (i : ℕ) → i < length xs → b ≡ enc (get_or xs i d) → length b ≡ k → Put k xs o₀ o i
+  pub put_turn : (k : ℕ) (xs : List A) (d : A) (o₀ o b : List ℕ) (i : ℕ) → i < length xs → b ≡ enc (get_or xs i d) → length b ≡ k → Put k xs o₀ o i
       → Put k xs o₀ (put_mid (i * k) (i * k + k - i * k) o b) (i + 1)
-  put-turn k xs d o₀ o b i h e s p =
-      subst (λ (n : ℕ). Put k xs o₀ (put_mid (i * k) n o b) (i + 1)) (sym (add-sub_cancel_left (i * k) k)) (put-turn·at k xs d o₀ o b i h e s p)
+  put_turn k xs d o₀ o b i h e s p =
+      subst (λ (n : ℕ). Put k xs o₀ (put_mid (i * k) n o b) (i + 1)) (sym (add-sub_cancel_left (i * k) k)) (put_turn·at k xs d o₀ o b i h e s p)
 
-  pub put-length : (k : ℕ) (xs : List A) (o₀ o : List ℕ) (i : ℕ) → i * k ≤ length o₀ → Put k xs o₀ o i → length o ≡ length o₀
-  put-length k xs o₀ o i h p =
+  pub put_length : (k : ℕ) (xs : List A) (o₀ o : List ℕ) (i : ℕ) → i * k ≤ length o₀ → Put k xs o₀ o i → length o ≡ length o₀
+  put_length k xs o₀ o i h p =
       ap length p.bytes
       ∙ length-append (flat enc (take i xs)) (drop (i * k) o₀)
       ∙ ap (λ (n : ℕ). n + length (drop (i * k) o₀)) p.count
@@ -122,8 +122,8 @@ module _ {A : Type 0} (enc : A → List ℕ) where
       ∙ add-sub_of_le h
 
   -- n elements are written, over all the bytes
-  pub put-end : (k n : ℕ) (xs : List A) (o₀ o : List ℕ) (i : ℕ) → i ≡ n → length o₀ ≡ n * k → Put k xs o₀ o i → o ≡ flat enc (take n xs)
-  put-end k n xs o₀ o i e s p =
+  pub put_end : (k n : ℕ) (xs : List A) (o₀ o : List ℕ) (i : ℕ) → i ≡ n → length o₀ ≡ n * k → Put k xs o₀ o i → o ≡ flat enc (take n xs)
+  put_end k n xs o₀ o i e s p =
       p.bytes
       ∙ ap (λ (m : ℕ). flat enc (take i xs) ++ drop m o₀) (ap (λ (m : ℕ). m * k) e ∙ sym s)
       ∙ ap (λ (r : List ℕ). flat enc (take i xs) ++ r) (drop-length o₀)
@@ -144,11 +144,11 @@ module _ (f : List ℕ → Bool) (k : ℕ) where
       ∙ sym (and_assoc (f (take k l)) (every f k i (drop k l)) (f (take k (drop (suc i * k) l))))
 
   -- a part that fails is not made good by those behind it
-  every-false : (i n : ℕ) (l : List ℕ) → i ≤ n → every f k i l ≡ false → every f k n l ≡ false
+  every_false : (i n : ℕ) (l : List ℕ) → i ≤ n → every f k i l ≡ false → every f k n l ≡ false
   unfolding every
-  every-false zero n l h e = absurd (true≢false e)
-  every-false (suc i) zero l h e = absurd (not-suc-le-zero h)
-  every-false (suc i) (suc n) l h e = go (f (take k l)) (every-false i n (drop k l) (le_of_suc-le-suc h)) e
+  every_false zero n l h e = absurd (true≢false e)
+  every_false (suc i) zero l h e = absurd (not-suc-le-zero h)
+  every_false (suc i) (suc n) l h e = go (f (take k l)) (every_false i n (drop k l) (le_of_suc-le-suc h)) e
     where
       go : (b : Bool) → (every f k i (drop k l) ≡ false → every f k n (drop k l) ≡ false) → b && every f k i (drop k l) ≡ false
           → b && every f k n (drop k l) ≡ false
@@ -163,11 +163,11 @@ module _ (f : List ℕ → Bool) (k : ℕ) where
         ∙ ap (λ (b : Bool). b && f (take k (drop (i * k) l))) e
         ∙ sym (q ∙ ap (λ (n : ℕ). f (take n (drop (i * k) l))) (add-sub_cancel_left (i * k) k))
 
-    pub test-turn : now ≡ true → every f k (i + 1) l ≡ true
-    test-turn t = ap (λ (m : ℕ). every f k m l) (add-one i) ∙ tested ∙ t
+    pub test_turn : now ≡ true → every f k (i + 1) l ≡ true
+    test_turn t = ap (λ (m : ℕ). every f k m l) (add-one i) ∙ tested ∙ t
 
-    pub test-stop : (n : ℕ) → i < n → now ≡ false → false ≡ every f k n l
-    test-stop n h t = sym (every-false (suc i) n l h (tested ∙ t))
+    pub test_stop : (n : ℕ) → i < n → now ≡ false → false ≡ every f k n l
+    test_stop n h t = sym (every_false (suc i) n l h (tested ∙ t))
 
 -- ---- zeros
 
@@ -181,23 +181,23 @@ and-false false = refl
 
 -- a turn of the loop that looks for zeros: what is left still gives the answer
 module _ (l : List ℕ) (start i : ℕ) (ok : Bool) (h : i < length l) (e : blank (drop start l) ≡ ok && blank (drop i l)) where
-  pub blank-other : ¬ (get_or l i 0 ≡ 0) → blank (drop start l) ≡ false && blank (drop (i + 1) l)
-  blank-other n =
+  pub blank_other : ¬ (get_or l i 0 ≡ 0) → blank (drop start l) ≡ false && blank (drop (i + 1) l)
+  blank_other n =
       e ∙ ap (λ (b : Bool). ok && b) (blank_step l i h ∙ ap (λ (b : Bool). b && blank (drop (i + 1) l)) (ne_eqb _ _ n)) ∙ sym (and-false ok)
 
-  pub blank-zero : get_or l i 0 ≡ 0 → blank (drop start l) ≡ ok && blank (drop (i + 1) l)
-  blank-zero z = e ∙ ap (λ (b : Bool). ok && b) (blank_step l i h ∙ ap (λ (b : Bool). b && blank (drop (i + 1) l)) (eq-eqb _ _ z))
+  pub blank_zero : get_or l i 0 ≡ 0 → blank (drop start l) ≡ ok && blank (drop (i + 1) l)
+  blank_zero z = e ∙ ap (λ (b : Bool). ok && b) (blank_step l i h ∙ ap (λ (b : Bool). b && blank (drop (i + 1) l)) (eq-eqb _ _ z))
 
-pub blank-end : (l : List ℕ) (start i : ℕ) (ok : Bool) → length l ≤ i → blank (drop start l) ≡ ok && blank (drop i l) → ok ≡ blank (drop start l)
+pub blank_end : (l : List ℕ) (start i : ℕ) (ok : Bool) → length l ≤ i → blank (drop start l) ≡ ok && blank (drop i l) → ok ≡ blank (drop start l)
 unfolding blank
-blank-end l start i ok h e = sym (e ∙ ap (λ (r : List ℕ). ok && blank r) (drop_of_length-le l h) ∙ and-true ok)
+blank_end l start i ok h e = sym (e ∙ ap (λ (r : List ℕ). ok && blank r) (drop_of_length-le l h) ∙ and-true ok)
 
-pub blank-to : (l : List ℕ) → blank l ≡ true → l ≡ replicate (length l) 0
+pub blank_to : (l : List ℕ) → blank l ≡ true → l ≡ replicate (length l) 0
 unfolding blank
-blank-to [] e = refl
-blank-to (x ∷ xs) e =
+blank_to [] e = refl
+blank_to (x ∷ xs) e =
     let t = (and-eq-true_iff (eqb x 0) (blank xs)).0 e in
-    ap (λ (n : ℕ). n ∷ xs) (eqb-true x 0 t.0) ∙ ap (λ (r : List ℕ). 0 ∷ r) (blank-to xs t.1)
+    ap (λ (n : ℕ). n ∷ xs) (eqb-true x 0 t.0) ∙ ap (λ (r : List ℕ). 0 ∷ r) (blank_to xs t.1)
 
 pub blank_of : (n : ℕ) → blank (replicate n 0) ≡ true
 unfolding blank
@@ -258,17 +258,17 @@ module _ {A : Type 0} (P : A → Type 0) where
   all_drop (suc n) (x ∷ xs) h = all_drop n xs h.1
 
   -- an element, or the default
-  pub all-each : (d : A) → P d → (xs : List A) → All P xs → (i : ℕ) → P (get_or xs i d)
+  pub all_each : (d : A) → P d → (xs : List A) → All P xs → (i : ℕ) → P (get_or xs i d)
   unfolding All
-  all-each d p [] h i = p
-  all-each d p (x ∷ xs) h zero = h.0
-  all-each d p (x ∷ xs) h (suc i) = all-each d p xs h.1 i
+  all_each d p [] h i = p
+  all_each d p (x ∷ xs) h zero = h.0
+  all_each d p (x ∷ xs) h (suc i) = all_each d p xs h.1 i
 
-  pub all-at : (d : A) (xs : List A) → All P xs → (i : ℕ) → i < length xs → P (get_or xs i d)
+  pub all_at : (d : A) (xs : List A) → All P xs → (i : ℕ) → i < length xs → P (get_or xs i d)
   unfolding All
-  all-at d [] h i k = absurd (not-suc-le-zero k)
-  all-at d (x ∷ xs) h zero k = h.0
-  all-at d (x ∷ xs) h (suc i) k = all-at d xs h.1 i (le_of_suc-le-suc k)
+  all_at d [] h i k = absurd (not-suc-le-zero k)
+  all_at d (x ∷ xs) h zero k = h.0
+  all_at d (x ∷ xs) h (suc i) k = all_at d xs h.1 i (le_of_suc-le-suc k)
 
   -- what holds of each of the first n
   pub all_take : (d : A) (n : ℕ) (xs : List A) → ((i : ℕ) → i < n → P (get_or xs i d)) → All P (take n xs)
@@ -280,33 +280,33 @@ module _ {A : Type 0} (P : A → Type 0) where
 -- ---- a row that is in use up to n, and whose entries behind it are all d
 
 module _ {A : Type 0} (d : A) (none : List A) (same : All (λ (x : A). x ≡ d) none) (n : ℕ) where
-  none-at : (i : ℕ) → get_or none i d ≡ d
-  none-at i = all-each (λ (x : A). x ≡ d) d refl none same i
+  none_at : (i : ℕ) → get_or none i d ≡ d
+  none_at i = all_each (λ (x : A). x ≡ d) d refl none same i
 
   module _ (xs : List A) (e : length xs ≡ n) where
-    pub row-each : (P : A → Type 0) → P d → All P xs → (i : ℕ) → P (get_or (xs ++ drop n none) i d)
-    row-each P p h i =
-        all-each P d p (xs ++ drop n none)
+    pub row_each : (P : A → Type 0) → P d → All P xs → (i : ℕ) → P (get_or (xs ++ drop n none) i d)
+    row_each P p h i =
+        all_each P d p (xs ++ drop n none)
         (all_append P xs (drop n none) h (all_drop P n none (all_map (λ x q. subst P (sym q) p) none same)))
         i
 
-    pub row-used : (P : A → Type 0) → All P xs → (i : ℕ) → i < n → P (get_or (xs ++ drop n none) i d)
-    row-used P h i k =
+    pub row_used : (P : A → Type 0) → All P xs → (i : ℕ) → i < n → P (get_or (xs ++ drop n none) i d)
+    row_used P h i k =
         let k' : i < length xs = omega arith in
-        subst P (sym (get_or-append xs (drop n none) d i k')) (all-at P d xs h i k')
+        subst P (sym (get_or-append xs (drop n none) d i k')) (all_at P d xs h i k')
 
-    pub row-spare : (i : ℕ) → n ≤ i → get_or (xs ++ drop n none) i d ≡ d
-    row-spare i k =
+    pub row_spare : (i : ℕ) → n ≤ i → get_or (xs ++ drop n none) i d ≡ d
+    row_spare i k =
         let j : i ≡ length xs + (i - n) = omega arith in
-        ap (λ (m : ℕ). get_or (xs ++ drop n none) m d) j ∙ get_or-append-add xs (drop n none) (i - n) d ∙ get_or-drop n none (i - n) d ∙ none-at (n + (i - n))
+        ap (λ (m : ℕ). get_or (xs ++ drop n none) m d) j ∙ get_or-append-add xs (drop n none) (i - n) d ∙ get_or-drop n none (i - n) d ∙ none_at (n + (i - n))
 
-    pub row-long : (k : ℕ) → length none ≡ k → n ≤ k → length (xs ++ drop n none) ≡ k
-    row-long k l h = simp (length-append, length-drop) (omega arith)
+    pub row_long : (k : ℕ) → length none ≡ k → n ≤ k → length (xs ++ drop n none) ≡ k
+    row_long k l h = simp (length-append, length-drop) (omega arith)
 
-  pub row-tail : (xs : List A) → length xs ≡ length none → ((i : ℕ) → n ≤ i → get_or xs i d ≡ d) → drop n xs ≡ drop n none
-  row-tail xs e f =
+  pub row_tail : (xs : List A) → length xs ≡ length none → ((i : ℕ) → n ≤ i → get_or xs i d ≡ d) → drop n xs ≡ drop n none
+  row_tail xs e f =
       ext_get_or d (drop n xs) (drop n none) (simp length-drop (ap (λ (m : ℕ). m - n) e))
-      (λ i h. get_or-drop n xs i d ∙ f (n + i) (omega arith) ∙ sym (get_or-drop n none i d ∙ none-at (n + i)))
+      (λ i h. get_or-drop n xs i d ∙ f (n + i) (omega arith) ∙ sym (get_or-drop n none i d ∙ none_at (n + i)))
 
 -- ---- reading gives back what was written
 
@@ -316,47 +316,47 @@ module _ {A : Type 0} (enc : A → List ℕ) (dec : List ℕ → A) (k : ℕ) wh
     pub size : length (enc x) ≡ k
     pub again : dec (enc x) ≡ x
 
-  pub flat-length : (xs : List A) → All Kept xs → length (flat enc xs) ≡ length xs * k
+  pub flat_length : (xs : List A) → All Kept xs → length (flat enc xs) ≡ length xs * k
   unfolding flat All
-  flat-length [] h = sym (zero-mul k)
-  flat-length (x ∷ xs) h =
+  flat_length [] h = sym (zero-mul k)
+  flat_length (x ∷ xs) h =
       length-append (enc x) (flat enc xs)
       ∙ ap (λ (n : ℕ). n + length (flat enc xs)) h.0.size
-      ∙ ap (λ (n : ℕ). k + n) (flat-length xs h.1)
+      ∙ ap (λ (n : ℕ). k + n) (flat_length xs h.1)
       ∙ add_comm k (length xs * k)
       ∙ sym (suc-mul (length xs) k)
 
-  pub parts-flat : (xs : List A) → All Kept xs → parts dec k (length xs) (flat enc xs) ≡ xs
+  pub parts_flat : (xs : List A) → All Kept xs → parts dec k (length xs) (flat enc xs) ≡ xs
   unfolding flat All parts
-  parts-flat [] h = refl
-  parts-flat (x ∷ xs) h =
+  parts_flat [] h = refl
+  parts_flat (x ∷ xs) h =
       let p = ap dec (take_at (enc x) (flat enc xs) k h.0.size) ∙ h.0.again in
-      let q = ap (parts dec k (length xs)) (drop_at (enc x) (flat enc xs) k h.0.size) ∙ parts-flat xs h.1 in
+      let q = ap (parts dec k (length xs)) (drop_at (enc x) (flat enc xs) k h.0.size) ∙ parts_flat xs h.1 in
       cc
 
-pub flat-size : {A : Type 0} (enc : A → List ℕ) (k : ℕ) → ((x : A) → length (enc x) ≡ k) → (xs : List A) → length (flat enc xs) ≡ length xs * k
+pub flat_size : {A : Type 0} (enc : A → List ℕ) (k : ℕ) → ((x : A) → length (enc x) ≡ k) → (xs : List A) → length (flat enc xs) ≡ length xs * k
 unfolding flat
-flat-size enc k e [] = sym (zero-mul k)
-flat-size enc k e (x ∷ xs) =
+flat_size enc k e [] = sym (zero-mul k)
+flat_size enc k e (x ∷ xs) =
     length-append (enc x) (flat enc xs)
     ∙ ap (λ (n : ℕ). n + length (flat enc xs)) (e x)
-    ∙ ap (λ (n : ℕ). k + n) (flat-size enc k e xs)
+    ∙ ap (λ (n : ℕ). k + n) (flat_size enc k e xs)
     ∙ add_comm k (length xs * k)
     ∙ sym (suc-mul (length xs) k)
 
 -- ---- a row's test, and what it says of the row
 
 module _ {A : Type 0} (f : List ℕ → Bool) (enc : A → List ℕ) (dec : List ℕ → A) (k : ℕ) where
-  pub every-to : (P : A → Type 0) → ((l : List ℕ) → length l ≡ k → f l ≡ true → (enc (dec l) ≡ l) × P (dec l)) → (n : ℕ) (l : List ℕ) → length l ≡ n * k
+  pub every_to : (P : A → Type 0) → ((l : List ℕ) → length l ≡ k → f l ≡ true → (enc (dec l) ≡ l) × P (dec l)) → (n : ℕ) (l : List ℕ) → length l ≡ n * k
       → every f k n l ≡ true → (flat enc (parts dec k n l) ≡ l) × All P (parts dec k n l)
   unfolding every flat parts All
-  every-to P g zero [] s e = (refl, tt)
-  every-to P g zero (x ∷ l) s e = absurd (omega (arith, s, zero-mul k))
-  every-to P g (suc n) l s e =
+  every_to P g zero [] s e = (refl, tt)
+  every_to P g zero (x ∷ l) s e = absurd (omega (arith, s, zero-mul k))
+  every_to P g (suc n) l s e =
       let m : length l ≡ n * k + k = s ∙ suc-mul n k in
       let t = (and-eq-true_iff (f (take k l)) (every f k n (drop k l))).0 e in
       let here = g (take k l) (length-take-le k l (omega arith)) t.0 in
-      let rest = every-to P g n (drop k l) (simp length-drop (omega arith)) t.1 in (
+      let rest = every_to P g n (drop k l) (simp length-drop (omega arith)) t.1 in (
         ap (λ (r : List ℕ). r ++ flat enc (parts dec k n (drop k l))) here.0 ∙ ap (λ (r : List ℕ). take k l ++ r) rest.0 ∙ take-append-drop k l,
         (here.1, rest.1),
       )

@@ -50,9 +50,9 @@ headed a e =
     let y = (and-eq-true_iff (ltb (get_or a 5 0) 2) (low_fits (get_or a 6 0) (get_or a 7 0))).0 x.1 in
     record { numbers = x.0; configured = ltb-true (get_or a 5 0) 2 y.0; low = y.1 }
 
-pub sized-to : (a : List ℕ) → sized a ≡ true → Sized a
+pub sized_to : (a : List ℕ) → sized a ≡ true → Sized a
 unfolding sized
-sized-to a e =
+sized_to a e =
     let x = (and-eq-true_iff (leb 8 (length a)) (head_fits a && eqb (length a) (8 + get_or a 0 0 * 4 + get_or a 1 0 * 72))).0 e in
     let y = (and-eq-true_iff (head_fits a) (eqb (length a) (8 + get_or a 0 0 * 4 + get_or a 1 0 * 72))).0 x.1 in
     let k = counts (get_or a 0 0) (get_or a 1 0) (get_or a 2 0) (get_or a 3 0) (get_or a 4 0) (headed a y.0).numbers in
@@ -65,9 +65,9 @@ sized-to a e =
       fits = y.0;
     }
 
-pub taken-sized : (a : List ℕ) → accepts a ≡ true → Sized a
+pub taken_sized : (a : List ℕ) → accepts a ≡ true → Sized a
 unfolding accepts
-taken-sized a e = sized-to a ((and-eq-true_iff (sized a) (rows_fit a)).0 e).0
+taken_sized a e = sized_to a ((and-eq-true_iff (sized a) (rows_fit a)).0 e).0
 
 -- ---- the paths through `rows_fit`
 
@@ -89,8 +89,8 @@ module _ (a : List ℕ) where
         ∙ ap (λ (b : Bool). b && buffer_tests (buffer_part a))
         (sym (e ∙ ap (λ (k : ℕ). port_tests (take k (drop 8 a))) (add-sub_cancel_left 8 (get_or a 0 0 * 4))))
 
-    pub rows-not : x ≡ false → false ≡ rows_fit a
-    rows-not f = sym (rows_is ∙ ap (λ (b : Bool). b && buffer_tests (buffer_part a)) f)
+    pub rows_not : x ≡ false → false ≡ rows_fit a
+    rows_not f = sym (rows_is ∙ ap (λ (b : Bool). b && buffer_tests (buffer_part a)) f)
 
     pub rows_end : x ≡ true → (y : Bool)
         → y ≡ buffer_tests (take (8 + get_or a 0 0 * 4 + get_or a 1 0 * 72 - (8 + get_or a 0 0 * 4)) (drop (8 + get_or a 0 0 * 4) a)) → y ≡ rows_fit a

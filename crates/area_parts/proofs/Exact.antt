@@ -1,15 +1,15 @@
 -- Reading and writing one part is exact. Assumes nothing.
 use Rattle.area_parts.specs.Claims.{PartsExact}
-use Rattle.area_parts.proofs.Anew.{shaped, head-there, buffer-there, slots-there, low-anew, buffer-anew}
-use Rattle.area_parts.proofs.Storing.{store-there}
+use Rattle.area_parts.proofs.Anew.{shaped, head_there, buffer_there, slots_there, low_anew, buffer_anew}
+use Rattle.area_parts.proofs.Storing.{store_there}
 
-pub parts-exact : PartsExact
-parts-exact =
+pub parts_exact_lem : PartsExact
+parts_exact_lem =
     record {
-      head-got = head-there;
-      buffer-got = λ h n v. buffer-there h v n;
-      slots-got = slots-there;
-      low-put = λ h l v. low-anew h (shaped h v) l;
-      buffer-put = λ h n b v. buffer-anew h (shaped h v) n b;
-      store-put = λ h n s l v. store-there h v n s l;
+      head_got = head_there;
+      buffer_got = λ h n v. buffer_there h v n;
+      slots_got = slots_there;
+      low_put = λ h l v. low_anew h (shaped h v) l;
+      buffer_put_lem = λ h n b v. buffer_anew h (shaped h v) n b;
+      store_put = λ h n s l v. store_there h v n s l;
     }

@@ -13,40 +13,40 @@ use Rattle.area_check.specs.Read.{low_of}
 use Rattle.area.specs.Written.{low_byte, running_byte, placed}
 use Rattle.area_parts.specs.declared.Head.{Head}
 use Rattle.area_parts.specs.Parts.{head_at, slot_at, slots_at, low_over}
-use Rattle.area.proofs.Over.{over_none, over-some}
+use Rattle.area.proofs.Over.{over_none, over_some}
 
 module _ (a : List ℕ) where
-  pub head-none : length a < 8 → ◌≡◌ {A = Head} (record { ports = record { 0 = 0 }; count = record { 0 = 0 }; configured = false; low = Idle }) (head_at a)
+  pub head_none : length a < 8 → ◌≡◌ {A = Head} (record { ports = record { 0 = 0 }; count = record { 0 = 0 }; configured = false; low = Idle }) (head_at a)
   unfolding head_at
-  head-none h = over_none 8 a _ _ h
+  head_none h = over_none 8 a _ _ h
 
-  pub head-some : 8 ≤ length a → (l : LowSide) → l ≡ low_of (get_or a 6 0) (get_or a 7 0)
+  pub head_some : 8 ≤ length a → (l : LowSide) → l ≡ low_of (get_or a 6 0) (get_or a 7 0)
       → record { ports = record { 0 = get_or a 0 0 }; count = record { 0 = get_or a 1 0 }; configured = eqb (get_or a 5 0) 1; low = l } ≡ head_at a
   unfolding head_at
-  head-some h l e =
-      ap (λ (x : LowSide). record { ports = record { 0 = get_or a 0 0 }; count = record { 0 = get_or a 1 0 }; configured = eqb (get_or a 5 0) 1; low = x }) e ∙ over-some 8 a _ _ h
+  head_some h l e =
+      ap (λ (x : LowSide). record { ports = record { 0 = get_or a 0 0 }; count = record { 0 = get_or a 1 0 }; configured = eqb (get_or a 5 0) 1; low = x }) e ∙ over_some 8 a _ _ h
 
-  pub slots-all : (n : ℕ) (s t u v : Slot) → s ≡ slot_at n 0 a → t ≡ slot_at n 1 a → u ≡ slot_at n 2 a → v ≡ slot_at n 3 a → s ∷ t ∷ u ∷ v ∷ [] ≡ slots_at n a
+  pub slots_all : (n : ℕ) (s t u v : Slot) → s ≡ slot_at n 0 a → t ≡ slot_at n 1 a → u ≡ slot_at n 2 a → v ≡ slot_at n 3 a → s ∷ t ∷ u ∷ v ∷ [] ≡ slots_at n a
   unfolding slots_at
-  slots-all n s t u v e f g h = rw (e, f, g, h)
+  slots_all n s t u v e f g h = rw (e, f, g, h)
 
 -- two bytes written, of the first eight
-low-set : (a : List ℕ) (x y : ℕ) → 8 ≤ length a → set (set a 6 x) 7 y ≡ placed 6 2 (x ∷ y ∷ []) a
-low-set [] x y h = absurd (omega arith)
-low-set (a ∷ []) x y h = absurd (omega arith)
-low-set (a ∷ b ∷ []) x y h = absurd (omega arith)
-low-set (a ∷ b ∷ c ∷ []) x y h = absurd (omega arith)
-low-set (a ∷ b ∷ c ∷ d ∷ []) x y h = absurd (omega arith)
-low-set (a ∷ b ∷ c ∷ d ∷ e ∷ []) x y h = absurd (omega arith)
-low-set (a ∷ b ∷ c ∷ d ∷ e ∷ f ∷ []) x y h = absurd (omega arith)
-low-set (a ∷ b ∷ c ∷ d ∷ e ∷ f ∷ g ∷ []) x y h = absurd (omega arith)
-low-set (a ∷ b ∷ c ∷ d ∷ e ∷ f ∷ g ∷ i ∷ l) x y h = refl
+low_set : (a : List ℕ) (x y : ℕ) → 8 ≤ length a → set (set a 6 x) 7 y ≡ placed 6 2 (x ∷ y ∷ []) a
+low_set [] x y h = absurd (omega arith)
+low_set (a ∷ []) x y h = absurd (omega arith)
+low_set (a ∷ b ∷ []) x y h = absurd (omega arith)
+low_set (a ∷ b ∷ c ∷ []) x y h = absurd (omega arith)
+low_set (a ∷ b ∷ c ∷ d ∷ []) x y h = absurd (omega arith)
+low_set (a ∷ b ∷ c ∷ d ∷ e ∷ []) x y h = absurd (omega arith)
+low_set (a ∷ b ∷ c ∷ d ∷ e ∷ f ∷ []) x y h = absurd (omega arith)
+low_set (a ∷ b ∷ c ∷ d ∷ e ∷ f ∷ g ∷ []) x y h = absurd (omega arith)
+low_set (a ∷ b ∷ c ∷ d ∷ e ∷ f ∷ g ∷ i ∷ l) x y h = refl
 
 module _ (a : List ℕ) (low : LowSide) where
-  pub low-not : length a < 8 → a ≡ low_over low a
+  pub low_not : length a < 8 → a ≡ low_over low a
   unfolding low_over
-  low-not h = over_none 8 a _ _ h
+  low_not h = over_none 8 a _ _ h
 
-  pub low-put : {x y : ℕ} → 8 ≤ length a → x ≡ low_byte low → y ≡ running_byte low → set (set a 6 x) 7 y ≡ low_over low a
+  pub low_put : {x y : ℕ} → 8 ≤ length a → x ≡ low_byte low → y ≡ running_byte low → set (set a 6 x) 7 y ≡ low_over low a
   unfolding low_over
-  low-put h e f = low-set a _ _ h ∙ rw (e, f) (over-some 8 a _ _ h)
+  low_put h e f = low_set a _ _ h ∙ rw (e, f) (over_some 8 a _ _ h)

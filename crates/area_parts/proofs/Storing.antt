@@ -20,30 +20,30 @@ use Rattle.translator.specs.Translator.{at, with_buffer}
 use Rattle.translator.specs.Order.{waiting, before, reranked, ranked_in, ranked}
 use Rattle.translator.specs.Slots.{slots_in, bare}
 use Rattle.translator.specs.StartSplit.{stored}
-use Rattle.translator.proofs.At.{at-cases}
-use Rattle.translator.proofs.Kept.{fits-reranked}
+use Rattle.translator.proofs.At.{at_cases}
+use Rattle.translator.proofs.Kept.{fits_reranked}
 use Rattle.translator.proofs.Bare.{waiting-bare}
-use Rattle.translator.proofs.Lists.{four, ranked-four}
+use Rattle.translator.proofs.Lists.{four, ranked_four}
 use Rattle.hub.specs.declared.Hub.{Hub}
 use Rattle.hub.specs.Hub.{with_translator}
 use Rattle.hub.specs.Valid.{ValidHub}
 use Rattle.area.specs.Written.{written}
 use Rattle.area_parts.specs.Parts.{buffer_at, buffer_over, rank_over, slot_ranked, ranks_over, store_over}
-use Rattle.area_parts.proofs.Anew.{Shaped, shaped, buffer-anew, got-inside}
+use Rattle.area_parts.proofs.Anew.{Shaped, shaped, buffer_anew, got_inside}
 
 -- ---- over plain values
 
 module _ (ss : List Slot) (n : ℕ) (i : BufferNumber) (s : StartSplit) (a : List ℕ) where
-  pub rank-pending : {q : Slot} {p r : ℕ} {b : Buffer} {e : List ℕ} → q ≡ Pending s p → r ≡ before p (bare ss) → b ≡ buffer_at n i a
+  pub rank_pending : {q : Slot} {p r : ℕ} {b : Buffer} {e : List ℕ} → q ≡ Pending s p → r ≡ before p (bare ss) → b ≡ buffer_at n i a
       → e ≡ buffer_over n i (record { slot = Pending s r; payload = b.payload }) a → e ≡ rank_over ss n i q a
   unfolding rank_over
-  rank-pending slot rank got put = rw (slot, put, rank, got)
+  rank_pending slot rank got put = rw (slot, put, rank, got)
 
-  pub store-all : (l : List ℕ) {a₀ a₁ a₂ a₃ e : List ℕ} {p : ℕ} {c : Payload}
+  pub store_all : (l : List ℕ) {a₀ a₁ a₂ a₃ e : List ℕ} {p : ℕ} {c : Payload}
       → a₀ ≡ slot_ranked ss n 0 a → a₁ ≡ slot_ranked ss n 1 a₀ → a₂ ≡ slot_ranked ss n 2 a₁ → a₃ ≡ slot_ranked ss n 3 a₂
       → p ≡ waiting (bare ss) → c ≡ payload_of l → e ≡ buffer_over n i (record { slot = Pending s p; payload = c }) a₃ → e ≡ store_over ss n i s l a
   unfolding store_over ranks_over
-  store-all l r₀ r₁ r₂ r₃ place payload put = rw (put, place, payload, r₃, r₂, r₁, r₀)
+  store_all l r₀ r₁ r₂ r₃ place payload put = rw (put, place, payload, r₃, r₂, r₁, r₀)
 
 -- ---- one buffer
 
@@ -52,7 +52,7 @@ abbrev hub : Hub → List Buffer → Hub
 hub h l = with_translator h (record { buffers = l; count = h.translator.count; low = h.translator.low })
 
 whole-ranked : (bs : List Buffer) (b : Buffer) → Whole b → Whole (ranked_in bs b)
-whole-ranked bs b w = record { fits = fits-reranked bs b.slot b.payload.len ∙ w.fits; zeros = w.zeros }
+whole-ranked bs b w = record { fits = fits_reranked bs b.slot b.payload.len ∙ w.fits; zeros = w.zeros }
 
 module _ (g : Hub) (v : Shaped g) (m : BufferNumber) where
   abbrev all : List Buffer
@@ -62,33 +62,33 @@ module _ (g : Hub) (v : Shaped g) (m : BufferNumber) where
   anew b = with_translator g (with_buffer g.translator m b)
 
   -- a whole buffer anew keeps the shape
-  shaped-anew : (b : Buffer) → m.0 < length all → Whole b → Shaped (anew b)
-  shaped-anew b here w =
+  shaped_anew : (b : Buffer) → m.0 < length all → Whole b → Shaped (anew b)
+  shaped_anew b here w =
       record {
         ports = v.ports;
         buffers = rw length-set v.buffers;
-        whole = λ j. at-cases all m.0 b here Whole j (λ _. w) (λ _. v.whole j);
+        whole = λ j. at_cases all m.0 b here Whole j (λ _. w) (λ _. v.whole j);
       }
 
   -- a buffer put where it was changes nothing
-  same-anew : (b : Buffer) → at all m.0 ≡ b → written g ≡ written (anew b)
-  same-anew b e = ap (λ (l : List Buffer). written (hub g l)) (sym (set-get_or all m.0 vacant) ∙ ap (set all m.0) e)
+  same_anew : (b : Buffer) → at all m.0 ≡ b → written g ≡ written (anew b)
+  same_anew b e = ap (λ (l : List Buffer). written (hub g l)) (sym (set-get_or all m.0 vacant) ∙ ap (set all m.0) e)
 
   -- one rank put: a pending buffer is there, any other stays
-  rank-anew : (ss : List Slot) (b : Buffer) → at all m.0 ≡ b → (is_pending b.slot ≡ true → m.0 < g.translator.count)
+  rank_anew : (ss : List Slot) (b : Buffer) → at all m.0 ≡ b → (is_pending b.slot ≡ true → m.0 < g.translator.count)
       → rank_over ss g.identity.ports m b.slot (written g) ≡ written (anew (ranked_in (bare ss) b))
   unfolding rank_over
-  rank-anew ss b = go b.slot
+  rank_anew ss b = go b.slot
     where
       go : (s : Slot) → at all m.0 ≡ record { slot = s; payload = b.payload } → (is_pending s ≡ true → m.0 < g.translator.count)
           → rank_over ss g.identity.ports m s (written g) ≡ written (anew (record { slot = reranked (bare ss) s; payload = b.payload }))
-      go Empty e k = same-anew _ e
+      go Empty e k = same_anew _ e
       go (Pending s p) e k =
           ap (λ (x : Buffer). buffer_over g.identity.ports m (record { slot = Pending s (before p (bare ss)); payload = x.payload }) (written g))
-          (got-inside g v m (k refl) ∙ e)
-          ∙ buffer-anew g v m (record { slot = Pending s (before p (bare ss)); payload = b.payload })
-      go (Ready s r) e k = same-anew _ e
-      go (Old s r) e k = same-anew _ e
+          (got_inside g v m (k refl) ∙ e)
+          ∙ buffer_anew g v m (record { slot = Pending s (before p (bare ss)); payload = b.payload })
+      go (Ready s r) e k = same_anew _ e
+      go (Old s r) e k = same_anew _ e
 
 -- ---- the four, then the new one
 
@@ -120,35 +120,35 @@ module _ (h : Hub) (b₀ b₁ b₂ b₃ : Buffer) where
     whole i = whole-ranked (bare (slots_in bs)) (at bs i) (v.whole i)
 
     v₁ : Shaped h₁
-    v₁ = shaped-anew (hub h bs) v (record { 0 = 0 }) (r b₀) (omega arith) (whole 0)
+    v₁ = shaped_anew (hub h bs) v (record { 0 = 0 }) (r b₀) (omega arith) (whole 0)
 
     v₂ : Shaped h₂
-    v₂ = shaped-anew h₁ v₁ (record { 0 = 1 }) (r b₁) (omega arith) (whole 1)
+    v₂ = shaped_anew h₁ v₁ (record { 0 = 1 }) (r b₁) (omega arith) (whole 1)
 
     v₃ : Shaped h₃
-    v₃ = shaped-anew h₂ v₂ (record { 0 = 2 }) (r b₂) (omega arith) (whole 2)
+    v₃ = shaped_anew h₂ v₂ (record { 0 = 2 }) (r b₂) (omega arith) (whole 2)
 
     v₄ : Shaped h₄
-    v₄ = shaped-anew h₃ v₃ (record { 0 = 3 }) (r b₃) (omega arith) (whole 3)
+    v₄ = shaped_anew h₃ v₃ (record { 0 = 3 }) (r b₃) (omega arith) (whole 3)
 
-    ranks-anew : ranks_over (slots_in bs) n (written (hub h bs)) ≡ written h₄
+    ranks_anew : ranks_over (slots_in bs) n (written (hub h bs)) ≡ written h₄
     unfolding ranks_over
-    ranks-anew =
+    ranks_anew =
         rw (
-          rank-anew (hub h bs) v (record { 0 = 0 }) (slots_in bs) b₀ refl (pending 0),
-          rank-anew h₁ v₁ (record { 0 = 1 }) (slots_in bs) b₁ refl (pending 1),
-          rank-anew h₂ v₂ (record { 0 = 2 }) (slots_in bs) b₂ refl (pending 2),
-          rank-anew h₃ v₃ (record { 0 = 3 }) (slots_in bs) b₃ refl (pending 3),
+          rank_anew (hub h bs) v (record { 0 = 0 }) (slots_in bs) b₀ refl (pending 0),
+          rank_anew h₁ v₁ (record { 0 = 1 }) (slots_in bs) b₁ refl (pending 1),
+          rank_anew h₂ v₂ (record { 0 = 2 }) (slots_in bs) b₂ refl (pending 2),
+          rank_anew h₃ v₃ (record { 0 = 3 }) (slots_in bs) b₃ refl (pending 3),
         )
 
-    store-anew : (i : BufferNumber) (s : StartSplit) (l : List ℕ)
+    store_anew : (i : BufferNumber) (s : StartSplit) (l : List ℕ)
         → store_over (slots_in bs) n i s l (written (hub h bs)) ≡ written (with_translator h (stored (hub h bs).translator i s l))
     unfolding store_over stored
-    store-anew i s l =
+    store_anew i s l =
         let new : Buffer = record { slot = Pending s (waiting (bare (slots_in bs))); payload = payload_of l } in
-        ap (buffer_over n i new) ranks-anew
-        ∙ buffer-anew h₄ v₄ i new
-        ∙ ap (λ (c : List Buffer). written (hub h (set c i.0 new))) (ranked-four vacant bs refl refl refl refl refl refl)
+        ap (buffer_over n i new) ranks_anew
+        ∙ buffer_anew h₄ v₄ i new
+        ∙ ap (λ (c : List Buffer). written (hub h (set c i.0 new))) (ranked_four vacant bs refl refl refl refl refl refl)
         ∙ ap (λ (k : ℕ). written (hub h (set (ranked bs) i.0 (record { slot = Pending s k; payload = payload_of l })))) (waiting-bare bs)
 
 module _ (h : Hub) (v : ValidHub h) where
@@ -156,8 +156,8 @@ module _ (h : Hub) (v : ValidHub h) where
   own = h.translator.buffers
 
   -- those that are not in use are empty
-  pending-below : (i : ℕ) → is_pending (at own i).slot ≡ true → i < h.translator.count
-  pending-below i e = go (dec_lt i h.translator.count)
+  pending_below : (i : ℕ) → is_pending (at own i).slot ≡ true → i < h.translator.count
+  pending_below i e = go (dec_lt i h.translator.count)
     where
       go : Dec (i < h.translator.count) → i < h.translator.count
       go (yes k) = k
@@ -166,13 +166,13 @@ module _ (h : Hub) (v : ValidHub h) where
           let y : ◌≡◌ {A = ℕ} 0 1 = cc in
           absurd (omega arith)
 
-  pub store-there : (i : BufferNumber) (s : StartSplit) (l : List ℕ)
+  pub store_there : (i : BufferNumber) (s : StartSplit) (l : List ℕ)
       → store_over (slots_in own) h.identity.ports i s l (written h) ≡ written (with_translator h (stored h.translator i s l))
-  store-there i s l =
+  store_there i s l =
       subst
       (λ (c : List Buffer). Shaped (hub h c)
       → ((j : ℕ) → is_pending (at c j).slot ≡ true → j < h.translator.count)
       → store_over (slots_in c) h.identity.ports i s l (written (hub h c)) ≡ written (with_translator h (stored (hub h c).translator i s l)))
       (sym (four vacant own v.translator.four))
-      (λ w p. store-anew h (at own 0) (at own 1) (at own 2) (at own 3) w p i s l)
-      (shaped h v) pending-below
+      (λ w p. store_anew h (at own 0) (at own 1) (at own 2) (at own 3) w p i s l)
+      (shaped h v) pending_below

@@ -15,18 +15,18 @@ use Rattle.area.specs.Written.{written}
 use Rattle.area_parts.specs.Parts.{head_at, buffer_at, slots_at, low_over, buffer_over, store_over}
 
 pub record PartsExact : Type 0 where
-  pub head-got : (h : Hub) → ValidHub h
+  pub head_got : (h : Hub) → ValidHub h
       → head_at (written h) ≡ record {
         ports = record { 0 = h.identity.ports };
         count = record { 0 = h.translator.count };
         configured = h.configured;
         low = h.translator.low;
       }
-  pub buffer-got : (h : Hub) (n : BufferNumber) → ValidHub h → buffer_at h.identity.ports n (written h) ≡ at h.translator.buffers n.0
-  pub slots-got : (h : Hub) → ValidHub h → slots_at h.identity.ports (written h) ≡ slots_in h.translator.buffers
-  pub low-put : (h : Hub) (low : LowSide) → ValidHub h → low_over low (written h) ≡ written (with_translator h (with_low h.translator low))
-  pub buffer-put : (h : Hub) (n : BufferNumber) (b : Buffer) → ValidHub h
+  pub buffer_got : (h : Hub) (n : BufferNumber) → ValidHub h → buffer_at h.identity.ports n (written h) ≡ at h.translator.buffers n.0
+  pub slots_got : (h : Hub) → ValidHub h → slots_at h.identity.ports (written h) ≡ slots_in h.translator.buffers
+  pub low_put : (h : Hub) (low : LowSide) → ValidHub h → low_over low (written h) ≡ written (with_translator h (with_low h.translator low))
+  pub buffer_put_lem : (h : Hub) (n : BufferNumber) (b : Buffer) → ValidHub h
       → buffer_over h.identity.ports n b (written h) ≡ written (with_translator h (with_buffer h.translator n b))
   -- storing a start-split with the hub's own slots is `stored` (crates/translator/specs/StartSplit.antt)
-  pub store-put : (h : Hub) (n : BufferNumber) (s : StartSplit) (l : List ℕ) → ValidHub h
+  pub store_put : (h : Hub) (n : BufferNumber) (s : StartSplit) (l : List ℕ) → ValidHub h
       → store_over (slots_in h.translator.buffers) h.identity.ports n s l (written h) ≡ written (with_translator h (stored h.translator n s l))

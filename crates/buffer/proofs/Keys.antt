@@ -12,25 +12,25 @@ use Rattle.buffer.specs.Same.{same_direction, same_key}
 use Rattle.buffer.specs.Claims.{KeyTest}
 use Rattle.buffer.specs.Key.{same_lane}
 
-pub lane-true : (a b : Lane) → same_lane a b ≡ true → a ≡ b
-lane-true Zero Zero e = refl
-lane-true Zero One e = absurd (false≢true e)
-lane-true One Zero e = absurd (false≢true e)
-lane-true One One e = refl
+pub lane_true : (a b : Lane) → same_lane a b ≡ true → a ≡ b
+lane_true Zero Zero e = refl
+lane_true Zero One e = absurd (false≢true e)
+lane_true One Zero e = absurd (false≢true e)
+lane_true One One e = refl
 
-pub lane-refl : (a : Lane) → same_lane a a ≡ true
-lane-refl Zero = refl
-lane-refl One = refl
+pub lane_refl : (a : Lane) → same_lane a a ≡ true
+lane_refl Zero = refl
+lane_refl One = refl
 
-direction-true : (a b : Direction) → same_direction a b ≡ true → a ≡ b
-direction-true direction.Out direction.Out e = refl
-direction-true direction.Out direction.In e = absurd (false≢true e)
-direction-true direction.In direction.Out e = absurd (false≢true e)
-direction-true direction.In direction.In e = refl
+direction_true : (a b : Direction) → same_direction a b ≡ true → a ≡ b
+direction_true direction.Out direction.Out e = refl
+direction_true direction.Out direction.In e = absurd (false≢true e)
+direction_true direction.In direction.Out e = absurd (false≢true e)
+direction_true direction.In direction.In e = refl
 
-direction-refl : (a : Direction) → same_direction a a ≡ true
-direction-refl direction.Out = refl
-direction-refl direction.In = refl
+direction_refl : (a : Direction) → same_direction a a ≡ true
+direction_refl direction.Out = refl
+direction_refl direction.In = refl
 
 pub same_true : (a b : Key) → same_key a b ≡ true → a ≡ b
 unfolding same_key
@@ -39,21 +39,21 @@ same_true a b e =
     let p = (and-eq-true_iff (eqb a.address.0 b.address.0) (eqb a.endpoint b.endpoint && same_direction a.direction b.direction)).0 l.1 in
     let q = (and-eq-true_iff (eqb a.endpoint b.endpoint) (same_direction a.direction b.direction)).0 p.1 in
     λ i. record {
-      lane = lane-true a.lane b.lane l.0 i;
+      lane = lane_true a.lane b.lane l.0 i;
       address = record { 0 = eqb-true a.address.0 b.address.0 p.0 i };
       endpoint = eqb-true a.endpoint b.endpoint q.0 i;
-      direction = direction-true a.direction b.direction q.1 i;
+      direction = direction_true a.direction b.direction q.1 i;
     }
 
 pub same_refl : (a : Key) → same_key a a ≡ true
 unfolding same_key
-same_refl a = simp (lane-refl, eq-eqb a.address.0 a.address.0 refl, eq-eqb a.endpoint a.endpoint refl, direction-refl)
+same_refl a = simp (lane_refl, eq-eqb a.address.0 a.address.0 refl, eq-eqb a.endpoint a.endpoint refl, direction_refl)
 
-pub same-eq : (a b : Key) → a ≡ b → same_key a b ≡ true
-same-eq a b e = ap (same_key a) (sym e) ∙ same_refl a
+pub same_eq : (a b : Key) → a ≡ b → same_key a b ≡ true
+same_eq a b e = ap (same_key a) (sym e) ∙ same_refl a
 
-pub same-ne : (a b : Key) → ¬ (a ≡ b) → same_key a b ≡ false
-same-ne a b ne = go (same_key a b) refl
+pub same_ne : (a b : Key) → ¬ (a ≡ b) → same_key a b ≡ false
+same_ne a b ne = go (same_key a b) refl
   where
     go : (t : Bool) → same_key a b ≡ t → t ≡ false
     go true e = absurd (ne (same_true a b e))
@@ -64,16 +64,16 @@ key? a b = go (same_key a b) refl
   where
     go : (t : Bool) → same_key a b ≡ t → Dec (a ≡ b)
     go true e = yes (same_true a b e)
-    go false e = no (λ p. false≢true (sym e ∙ same-eq a b p))
+    go false e = no (λ p. false≢true (sym e ∙ same_eq a b p))
 
-pub key-test-holds : KeyTest
-key-test-holds a b = (same_true a b, same-eq a b)
+pub key_test_holds : KeyTest
+key_test_holds a b = (same_true a b, same_eq a b)
 
 -- ---- by their address first
 
-pub address-differs : (a b : Key) → ¬ (a.address.0 ≡ b.address.0) → false ≡ same_key a b
+pub address_differs : (a b : Key) → ¬ (a.address.0 ≡ b.address.0) → false ≡ same_key a b
 unfolding same_key
-address-differs a b d = rw (ne_eqb a.address.0 b.address.0 d) (sym (and-false (same_lane a.lane b.lane)))
+address_differs a b d = rw (ne_eqb a.address.0 b.address.0 d) (sym (and-false (same_lane a.lane b.lane)))
 
 pub address_same : (a b : Key) → a.address.0 ≡ b.address.0
     → (same_lane a.lane b.lane && (eqb a.endpoint b.endpoint && same_direction a.direction b.direction)) ≡ same_key a b

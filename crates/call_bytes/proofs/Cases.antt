@@ -6,24 +6,24 @@ use Rattle.call_bytes.specs.Written.{written_form}
 use Rattle.call_bytes.specs.Read.{read_of, is_record}
 use Rattle.call_bytes.specs.Cases.{RecordCases}
 
-pub record-cases : RecordCases
+pub record_cases_lem : RecordCases
 unfolding written_form words read_of is_record kind_of with_tag words_at
-record-cases =
+record_cases_lem =
     record {
-      start-written = refl;
-      start-read = refl;
-      control-written = refl;
-      poll-written = refl;
-      complete-written = refl;
-      deliver-written = refl;
-      setup-written = refl;
-      launch-written = refl;
-      event-written = refl;
-      tick-written = refl;
-      reset-written = refl;
+      start_written = refl;
+      start_read = refl;
+      control_written = refl;
+      poll_written = refl;
+      complete_written = refl;
+      deliver_written = refl;
+      setup_written = refl;
+      launch_written = refl;
+      event_written = refl;
+      tick_written = refl;
+      reset_written = refl;
       no_bytes = refl;
-      tag-zero = refl;
-      tag-ten = refl;
-      poll-cut = refl;
-      deliver-cut = refl;
+      tag_zero = refl;
+      tag_ten = refl;
+      poll_cut = refl;
+      deliver_cut = refl;
     }

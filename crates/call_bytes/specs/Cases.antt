@@ -11,27 +11,27 @@ start_bytes =
     3 ∷ 1 ∷ 0 ∷ 0 ∷ 0 ∷ 9 ∷ 0 ∷ 0 ∷ 0 ∷ 2 ∷ 0 ∷ 0 ∷ 0 ∷ 0 ∷ 0 ∷ 0 ∷ 0 ∷ 0 ∷ 0 ∷ 0 ∷ 0 ∷ 5 ∷ 0 ∷ 0 ∷ 0 ∷ 1 ∷ 0 ∷ 0 ∷ 0 ∷ 0 ∷ 0 ∷ []
 
 pub record RecordCases : Type 0 where
-  pub start-written : written (Start 1 9 2 0 0 5 1 []) ≡ start_bytes
-  pub start-read : call_in (read_of start_bytes) start_bytes ≡ Start 1 9 2 0 0 5 1 []
+  pub start_written : written (Start 1 9 2 0 0 5 1 []) ≡ start_bytes
+  pub start_read : call_in (read_of start_bytes) start_bytes ≡ Start 1 9 2 0 0 5 1 []
   -- SetConfiguration 1 from lane 0, with 64 bytes of reply space
-  pub control-written : written (Control 0 (0 ∷ 9 ∷ 1 ∷ 0 ∷ 0 ∷ 0 ∷ 0 ∷ 0 ∷ []) 64)
+  pub control_written : written (Control 0 (0 ∷ 9 ∷ 1 ∷ 0 ∷ 0 ∷ 0 ∷ 0 ∷ 0 ∷ []) 64)
       ≡ 1 ∷ 0 ∷ 0 ∷ 0 ∷ 0 ∷ 64 ∷ 0 ∷ 0 ∷ 0 ∷ 8 ∷ 0 ∷ 0 ∷ 9 ∷ 1 ∷ 0 ∷ 0 ∷ 0 ∷ 0 ∷ 0 ∷ []
   -- calls that the hub refuses have a form too: lane 2, a room of 10 bytes
-  pub poll-written : written (Poll 2 10) ≡ 2 ∷ 2 ∷ 0 ∷ 0 ∷ 0 ∷ 10 ∷ 0 ∷ 0 ∷ 0 ∷ []
+  pub poll_written : written (Poll 2 10) ≡ 2 ∷ 2 ∷ 0 ∷ 0 ∷ 0 ∷ 10 ∷ 0 ∷ 0 ∷ 0 ∷ []
   -- address 200 and the largest number
-  pub complete-written : written (Complete 0 200 1 1 4294967295)
+  pub complete_written : written (Complete 0 200 1 1 4294967295)
       ≡ 4 ∷ 0 ∷ 0 ∷ 0 ∷ 0 ∷ 200 ∷ 0 ∷ 0 ∷ 0 ∷ 1 ∷ 0 ∷ 0 ∷ 0 ∷ 1 ∷ 0 ∷ 0 ∷ 0 ∷ 255 ∷ 255 ∷ 255 ∷ 255 ∷ []
   -- a payload of 65 bytes
-  pub deliver-written : written (Deliver 3 (replicate 65 7)) ≡ 6 ∷ 3 ∷ 0 ∷ 0 ∷ 0 ∷ 65 ∷ 0 ∷ replicate 65 7
+  pub deliver_written : written (Deliver 3 (replicate 65 7)) ≡ 6 ∷ 3 ∷ 0 ∷ 0 ∷ 0 ∷ 65 ∷ 0 ∷ replicate 65 7
   -- a setup of seven bytes
-  pub setup-written : written (Control 0 (replicate 7 1) 64) ≡ 1 ∷ 0 ∷ 0 ∷ 0 ∷ 0 ∷ 64 ∷ 0 ∷ 0 ∷ 0 ∷ 7 ∷ 0 ∷ replicate 7 1
-  pub launch-written : written (Launch 64) ≡ 5 ∷ 64 ∷ 0 ∷ 0 ∷ 0 ∷ []
-  pub event-written : written (Event 2 260) ≡ 7 ∷ 2 ∷ 0 ∷ 0 ∷ 0 ∷ 4 ∷ 1 ∷ 0 ∷ 0 ∷ []
-  pub tick-written : written Tick ≡ 8 ∷ []
-  pub reset-written : written BusReset ≡ 9 ∷ []
+  pub setup_written : written (Control 0 (replicate 7 1) 64) ≡ 1 ∷ 0 ∷ 0 ∷ 0 ∷ 0 ∷ 64 ∷ 0 ∷ 0 ∷ 0 ∷ 7 ∷ 0 ∷ replicate 7 1
+  pub launch_written : written (Launch 64) ≡ 5 ∷ 64 ∷ 0 ∷ 0 ∷ 0 ∷ []
+  pub event_written : written (Event 2 260) ≡ 7 ∷ 2 ∷ 0 ∷ 0 ∷ 0 ∷ 4 ∷ 1 ∷ 0 ∷ 0 ∷ []
+  pub tick_written : written Tick ≡ 8 ∷ []
+  pub reset_written : written BusReset ≡ 9 ∷ []
   -- no call: no bytes, tag 0, tag 10, a poll that lacks its last byte, a delivery whose count is larger than its bytes
   pub no_bytes : is_known (read_of []).kind ≡ false
-  pub tag-zero : is_known (read_of (0 ∷ [])).kind ≡ false
-  pub tag-ten : is_known (read_of (10 ∷ [])).kind ≡ false
-  pub poll-cut : is_known (read_of (2 ∷ 2 ∷ 0 ∷ 0 ∷ 0 ∷ 10 ∷ 0 ∷ 0 ∷ [])).kind ≡ false
-  pub deliver-cut : is_known (read_of (6 ∷ 3 ∷ 0 ∷ 0 ∷ 0 ∷ 2 ∷ 0 ∷ 7 ∷ [])).kind ≡ false
+  pub tag_zero : is_known (read_of (0 ∷ [])).kind ≡ false
+  pub tag_ten : is_known (read_of (10 ∷ [])).kind ≡ false
+  pub poll_cut : is_known (read_of (2 ∷ 2 ∷ 0 ∷ 0 ∷ 0 ∷ 10 ∷ 0 ∷ 0 ∷ [])).kind ≡ false
+  pub deliver_cut : is_known (read_of (6 ∷ 3 ∷ 0 ∷ 0 ∷ 0 ∷ 2 ∷ 0 ∷ 7 ∷ [])).kind ≡ false

@@ -73,5 +73,5 @@ module _ (chart : List ℕ) (matches : Matches chart) where
       ap (λ (x : Answered). x ∷ run (looked_up chart) x.port is) (step p i)
       ∙ ap (λ (l : List Answered). by_rules p i ∷ l) (runs (by_rules p i).port is)
 
-  pub engines-agree : EnginesAgree (looked_up chart)
-  engines-agree = record { step = step; runs = runs }
+  pub engines_agree : EnginesAgree (looked_up chart)
+  engines_agree = record { step = step; runs = runs }

@@ -16,8 +16,8 @@ pub past : (k n : ℕ) → NoneOf k n → k ≤ n
 past zero n none = omega arith
 past (suc k) n none = let other = none.1 in omega (arith, past k n none.0, other)
 
-pub line-again : (n : ℕ) → bit (eqb (n / 24 % 2) 1) * 24 + n % 24 ≡ n % 48
-line-again n = go (eqb (n / 24 % 2) 1) refl
+pub line_again : (n : ℕ) → bit (eqb (n / 24 % 2) 1) * 24 + n % 24 ≡ n % 48
+line_again n = go (eqb (n / 24 % 2) 1) refl
   where
     go : (b : Bool) → eqb (n / 24 % 2) 1 ≡ b → bit b * 24 + n % 24 ≡ n % 48
     go true e = omega (arith, eqb-true (n / 24 % 2) 1 e)

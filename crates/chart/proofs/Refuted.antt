@@ -30,30 +30,30 @@ shown a = weight (a.number ∷ ticks_so_far a.port.state ∷ status_bytes a.port
 differ : (x y : Answered) → eqb (shown x) (shown y) ≡ false → ¬ (x ≡ y)
 differ x y d e = eqb-false (shown x) (shown y) d (ap shown e)
 
-wrong-step : (engine : Port → Input → Answered) (p : Port) (i : Input) → eqb (shown (engine p i)) (shown (by_rules p i)) ≡ false → ¬ (EnginesAgree engine)
-wrong-step engine p i d agree = differ (engine p i) (by_rules p i) d (agree.step p i)
+wrong_step : (engine : Port → Input → Answered) (p : Port) (i : Input) → eqb (shown (engine p i)) (shown (by_rules p i)) ≡ false → ¬ (EnginesAgree engine)
+wrong_step engine p i d agree = differ (engine p i) (by_rules p i) d (agree.step p i)
 
-wrong-cell : (p : Port) (i : Input) (cell : ℕ) → eqb (shown (read (runs_on p.state) p i cell)) (shown (by_rules p i)) ≡ false → WrongCell p i cell
+wrong_cell : (p : Port) (i : Input) (cell : ℕ) → eqb (shown (read (runs_on p.state) p i cell)) (shown (by_rules p i)) ≡ false → WrongCell p i cell
 unfolding WrongCell looked_up
-wrong-cell p i cell d chart says agree =
+wrong_cell p i cell d chart says agree =
     differ (read (runs_on p.state) p i cell) (by_rules p i) d (ap (read (runs_on p.state) p i) (sym says) ∙ agree.step p i)
 
-pub chart-mistakes-shut-out : ChartMistakesShutOut
-chart-mistakes-shut-out =
+pub chart_mistakes_shut_out_lem : ChartMistakesShutOut
+chart_mistakes_shut_out_lem =
     record {
-      detach-in-resuming = wrong-cell _ _ _ refl;
-      chirp-at-low = wrong-cell _ _ _ refl;
-      reset-unreported = wrong-cell _ _ _ refl;
-      enable-on-detach = wrong-cell _ _ _ refl;
-      refused-moves = wrong-cell _ _ _ refl;
-      refused-done = wrong-cell _ _ _ refl;
-      reset-at-high = wrong-cell _ _ _ refl;
-      unconfigured-done = wrong-cell _ _ _ refl;
-      power-with-over-current = wrong-cell _ _ _ refl;
-      level-kept = wrong-cell _ _ _ refl;
-      other-bit-cleared = wrong-cell _ _ _ refl;
-      bits-kept = wrong-cell _ _ _ refl;
-      numbers-alone = wrong-step numbers_alone (bare (Resetting Full 3)) input.Tick refl;
-      ports-alone = wrong-step ports_alone (bare PoweredOff) (input.Event AttachFull) refl;
-      counts-twice = wrong-step counts_twice (bare (Resetting Full 3)) input.Tick refl;
+      detach_in_resuming = wrong_cell _ _ _ refl;
+      chirp_at_low = wrong_cell _ _ _ refl;
+      reset_unreported = wrong_cell _ _ _ refl;
+      enable_on_detach = wrong_cell _ _ _ refl;
+      refused_moves = wrong_cell _ _ _ refl;
+      refused_done = wrong_cell _ _ _ refl;
+      reset_at_high = wrong_cell _ _ _ refl;
+      unconfigured_done = wrong_cell _ _ _ refl;
+      power_with_over_current = wrong_cell _ _ _ refl;
+      level_kept = wrong_cell _ _ _ refl;
+      other_bit_cleared = wrong_cell _ _ _ refl;
+      bits_kept = wrong_cell _ _ _ refl;
+      numbers_alone_lem = wrong_step numbers_alone (bare (Resetting Full 3)) input.Tick refl;
+      ports_alone_lem = wrong_step ports_alone (bare PoweredOff) (input.Event AttachFull) refl;
+      counts_twice_lem = wrong_step counts_twice (bare (Resetting Full 3)) input.Tick refl;
     }

@@ -21,13 +21,13 @@ counts =
     by_state (λ s. runs_on s ≡ true → ticks_so_far s < 255) (λ e. omega arith) (λ e. omega arith) (λ e. omega arith) (λ v e. omega arith)
     (λ v t e. omega (arith, ltb-true t 14 e)) (λ v e. omega arith) (λ v e. omega arith) (λ v t e. omega (arith, ltb-true t 21 e))
 
-number-0 : (s : PortState) → eqb (state_number s) 0 ≡ is_not_configured s
-number-0 = each (λ s. eqb (state_number s) 0) is_not_configured (λ v t. refl)
+number_0 : (s : PortState) → eqb (state_number s) 0 ≡ is_not_configured s
+number_0 = each (λ s. eqb (state_number s) 0) is_not_configured (λ v t. refl)
 
 -- the first engine, by a test that its code makes
 module _ (p : Port) (i : Input) (q : Bool) (n : ℕ) (b : Bool) (request : q ≡ is_port_request i) (number : n ≡ state_number p.state) (both : b ≡ (q && eqb n 0)) where
   same : b ≡ (is_port_request i && is_not_configured p.state)
-  same = both ∙ rw (request, number) (ap (λ (x : Bool). is_port_request i && x) (number-0 p.state))
+  same = both ∙ rw (request, number) (ap (λ (x : Bool). is_port_request i && x) (number_0 p.state))
 
   tested : {c : Bool} → b ≡ c → cond c (record { port = p; number = 2 }) (stepped_by p i) ≡ by_rules p i
   tested e = ap (λ (x : Bool). cond x (record { port = p; number = 2 }) (stepped_by p i)) (sym e ∙ same)

@@ -31,30 +31,30 @@ module _ {X : Type 0} (f g : Input → X) (same : across f ≡ across g) where
   nth : (k : ℕ) → get_or (across f) k (f input.Tick) ≡ get_or (across g) k (f input.Tick)
   nth k = ap (λ (l : List X). get_or l k (f input.Tick)) same
 
-  pub each-input : (i : Input) → f i ≡ g i
-  each-input (input.Event AttachLow) = nth 0
-  each-input (input.Event AttachFull) = nth 1
-  each-input (input.Event Detach) = nth 2
-  each-input (input.Event Chirp) = nth 3
-  each-input (input.Event Wake) = nth 4
-  each-input (input.Event PortError) = nth 5
-  each-input (input.Event OverCurrentOn) = nth 6
-  each-input (input.Event OverCurrentOff) = nth 7
-  each-input input.Tick = nth 8
-  each-input (input.SetFeature settable.Suspend) = nth 9
-  each-input (input.SetFeature settable.Reset) = nth 10
-  each-input (input.SetFeature settable.Power) = nth 11
-  each-input (input.ClearFeature clearable.Enable) = nth 12
-  each-input (input.ClearFeature clearable.Suspend) = nth 13
-  each-input (input.ClearFeature clearable.Power) = nth 14
-  each-input (input.ClearFeature (clearable.Change change.Connection)) = nth 15
-  each-input (input.ClearFeature (clearable.Change change.Enable)) = nth 16
-  each-input (input.ClearFeature (clearable.Change change.Suspend)) = nth 17
-  each-input (input.ClearFeature (clearable.Change change.OverCurrent)) = nth 18
-  each-input (input.ClearFeature (clearable.Change change.Reset)) = nth 19
-  each-input input.Unconfigure = nth 20
-  each-input input.Configure = nth 21
-  each-input input.BusReset = nth 22
+  pub each_input : (i : Input) → f i ≡ g i
+  each_input (input.Event AttachLow) = nth 0
+  each_input (input.Event AttachFull) = nth 1
+  each_input (input.Event Detach) = nth 2
+  each_input (input.Event Chirp) = nth 3
+  each_input (input.Event Wake) = nth 4
+  each_input (input.Event PortError) = nth 5
+  each_input (input.Event OverCurrentOn) = nth 6
+  each_input (input.Event OverCurrentOff) = nth 7
+  each_input input.Tick = nth 8
+  each_input (input.SetFeature settable.Suspend) = nth 9
+  each_input (input.SetFeature settable.Reset) = nth 10
+  each_input (input.SetFeature settable.Power) = nth 11
+  each_input (input.ClearFeature clearable.Enable) = nth 12
+  each_input (input.ClearFeature clearable.Suspend) = nth 13
+  each_input (input.ClearFeature clearable.Power) = nth 14
+  each_input (input.ClearFeature (clearable.Change change.Connection)) = nth 15
+  each_input (input.ClearFeature (clearable.Change change.Enable)) = nth 16
+  each_input (input.ClearFeature (clearable.Change change.Suspend)) = nth 17
+  each_input (input.ClearFeature (clearable.Change change.OverCurrent)) = nth 18
+  each_input (input.ClearFeature (clearable.Change change.Reset)) = nth 19
+  each_input input.Unconfigure = nth 20
+  each_input input.Configure = nth 21
+  each_input input.BusReset = nth 22
 
 -- the cells of one timer, one level and one speed
 abbrev pub block : {X : Type 0} → (PortState → Input → X) → Speed → ℕ → List (List X)
@@ -87,4 +87,4 @@ module _ {X : Type 0} (F G : Bool → Bool → PortState → Input → X) (same 
   blocks false false High t = at 11 t
 
   pub everywhere : (r l : Bool) (s : PortState) (i : Input) → F r l s i ≡ G r l s i
-  everywhere r l s = each-input (F r l s) (G r l s) (each (λ s. across (F r l s)) (λ s. across (G r l s)) (blocks r l) s)
+  everywhere r l s = each_input (F r l s) (G r l s) (each (λ s. across (F r l s)) (λ s. across (G r l s)) (blocks r l) s)

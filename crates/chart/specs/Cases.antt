@@ -65,16 +65,16 @@ pub record EngineCases : Type 0 where
   pub refused : numbers (attached ++ (Event AttachFull ∷ SetFeature settable.Reset ∷ Event Detach ∷ Event Chirp ∷ Event Chirp ∷ []))
       ≡ 0 ∷ 0 ∷ 0 ∷ 8 ∷ 0 ∷ 8 ∷ 0 ∷ 8 ∷ []
   -- a second set PORT_RESET has no effect: Enabled at the 15th tick after the first
-  pub second-reset : status (resetting ++ (ticks 10 ++ (SetFeature settable.Reset ∷ ticks 5))) ≡ 0x03 ∷ 0x01 ∷ 0x11 ∷ 0x00 ∷ []
+  pub second_reset : status (resetting ++ (ticks 10 ++ (SetFeature settable.Reset ∷ ticks 5))) ≡ 0x03 ∷ 0x01 ∷ 0x11 ∷ 0x00 ∷ []
   -- a resume ends at the 22nd tick; a reset within it starts at 0
   pub resumed : status (suspended ++ (Event Wake ∷ ticks 22)) ≡ 0x03 ∷ 0x01 ∷ 0x15 ∷ 0x00 ∷ []
   pub resuming : status (suspended ++ (ClearFeature clearable.Suspend ∷ ticks 21)) ≡ 0x07 ∷ 0x01 ∷ 0x11 ∷ 0x00 ∷ []
-  pub reset-within : status (suspended ++ (Event Wake ∷ ticks 14 ++ (SetFeature settable.Reset ∷ ticks 14))) ≡ 0x11 ∷ 0x01 ∷ 0x11 ∷ 0x00 ∷ []
+  pub reset_within : status (suspended ++ (Event Wake ∷ ticks 14 ++ (SetFeature settable.Reset ∷ ticks 14))) ≡ 0x11 ∷ 0x01 ∷ 0x11 ∷ 0x00 ∷ []
   -- power is not to be had while over-current holds; its end is reported
   pub no_power : status (powered ++ (Event OverCurrentOn ∷ SetFeature settable.Power ∷ [])) ≡ 0x08 ∷ 0x00 ∷ 0x08 ∷ 0x00 ∷ []
-  pub power-again :
+  pub power_again :
       status (powered ++ (Event OverCurrentOn ∷ ClearFeature (clearable.Change change.OverCurrent) ∷ Event OverCurrentOff ∷ SetFeature settable.Power ∷ []))
       ≡ 0x00 ∷ 0x01 ∷ 0x08 ∷ 0x00 ∷ []
   -- SetConfiguration 0 keeps change bits, a bus reset doesn't
-  pub configured-anew : status (enabled ++ (Unconfigure ∷ Configure ∷ [])) ≡ 0x00 ∷ 0x00 ∷ 0x11 ∷ 0x00 ∷ []
-  pub bus-reset : status (enabled ++ (BusReset ∷ [])) ≡ 0x00 ∷ 0x00 ∷ 0x00 ∷ 0x00 ∷ []
+  pub configured_anew : status (enabled ++ (Unconfigure ∷ Configure ∷ [])) ≡ 0x00 ∷ 0x00 ∷ 0x11 ∷ 0x00 ∷ []
+  pub bus_reset_lem : status (enabled ++ (BusReset ∷ [])) ≡ 0x00 ∷ 0x00 ∷ 0x00 ∷ 0x00 ∷ []

@@ -46,26 +46,26 @@ counts_twice p input.BusReset = by_rules p input.BusReset
 
 pub record ChartMistakesShutOut : Type 0 where
   -- a detach in Resuming is accepted
-  pub detach-in-resuming : WrongCell (bare (Resuming Full 0)) (input.Event Detach) 0x20001000
+  pub detach_in_resuming : WrongCell (bare (Resuming Full 0)) (input.Event Detach) 0x20001000
   -- a chirp at low speed makes high speed
-  pub chirp-at-low : WrongCell (bare (Resetting Low 0)) (input.Event Chirp) 0x42000000
+  pub chirp_at_low : WrongCell (bare (Resetting Low 0)) (input.Event Chirp) 0x42000000
   -- the tick that ends a reset doesn't report it
-  pub reset-unreported : WrongCell (bare (Resetting Full 14)) input.Tick 0x51000000
+  pub reset_unreported : WrongCell (bare (Resetting Full 14)) input.Tick 0x51000000
   -- before C-12: a detach in Enabled sets C_PORT_ENABLE too
-  pub enable-on-detach : WrongCell (bare (Enabled Full)) (input.Event Detach) 0x20003000
+  pub enable_on_detach : WrongCell (bare (Enabled Full)) (input.Event Detach) 0x20003000
   -- a refused event is answered 8 and moves the port all the same; it moves nothing and is answered 0
-  pub refused-moves : WrongCell (bare PoweredOff) (input.Event AttachFull) 0x31001008
-  pub refused-done : WrongCell (bare PoweredOff) (input.Event AttachFull) 0x10000000
+  pub refused_moves : WrongCell (bare PoweredOff) (input.Event AttachFull) 0x31001008
+  pub refused_done : WrongCell (bare PoweredOff) (input.Event AttachFull) 0x10000000
   -- a high-speed port stays at high speed when it is reset
-  pub reset-at-high : WrongCell (bare (Enabled High)) (input.SetFeature settable.Reset) 0x42000000
+  pub reset_at_high : WrongCell (bare (Enabled High)) (input.SetFeature settable.Reset) 0x42000000
   -- a port request to an unconfigured hub is answered 0
-  pub unconfigured-done : WrongCell (bare NotConfigured) (input.SetFeature settable.Power) 0x00000000
+  pub unconfigured_done : WrongCell (bare NotConfigured) (input.SetFeature settable.Power) 0x00000000
   -- set PORT_POWER powers a port with over-current
-  pub power-with-over-current : WrongCell (loaded PoweredOff) (input.SetFeature settable.Power) 0x20100000
+  pub power_with_over_current : WrongCell (loaded PoweredOff) (input.SetFeature settable.Power) 0x20100000
   -- SetConfiguration 0 keeps the level; a change bit is cleared with another; bus reset keeps the bits
-  pub level-kept : WrongCell (loaded PoweredOff) input.Unconfigure 0x00100000
-  pub other-bit-cleared : WrongCell (loaded PoweredOff) (input.ClearFeature (clearable.Change change.Reset)) 0x10100110
-  pub bits-kept : WrongCell (loaded PoweredOff) input.BusReset 0x00000000
-  pub numbers-alone : ¬ (EnginesAgree numbers_alone)
-  pub ports-alone : ¬ (EnginesAgree ports_alone)
-  pub counts-twice : ¬ (EnginesAgree counts_twice)
+  pub level_kept : WrongCell (loaded PoweredOff) input.Unconfigure 0x00100000
+  pub other_bit_cleared : WrongCell (loaded PoweredOff) (input.ClearFeature (clearable.Change change.Reset)) 0x10100110
+  pub bits_kept : WrongCell (loaded PoweredOff) input.BusReset 0x00000000
+  pub numbers_alone_lem : ¬ (EnginesAgree numbers_alone)
+  pub ports_alone_lem : ¬ (EnginesAgree ports_alone)
+  pub counts_twice_lem : ¬ (EnginesAgree counts_twice)

@@ -15,8 +15,8 @@ use Rattle.hub.specs.Call.{Call, Control, Poll, Start, Complete, Launch, Deliver
 use Rattle.hub.specs.Checks.{within, has_space, not_silent, fitting, first_refusal}
 use Rattle.hub.specs.Step.{served, step}
 use Rattle.hub.specs.Valid.{ValidHub}
-use Rattle.hub.proofs.Order.{by-step}
-use Rattle.hub.proofs.Claimed.{hub-claims}
+use Rattle.hub.proofs.Order.{by_step}
+use Rattle.hub.proofs.Claimed.{hub_claims_lem}
 use Rattle.runs.specs.History.{Event}
 use Rattle.runs.specs.Machine.{Machine, new_hub_of, rules, run_from, run, after_from}
 use Rattle.runs.specs.Altered.{with_bytes}
@@ -26,47 +26,47 @@ use Rattle.runs.specs.Order.{AllOrdered, LaunchOrder}
 use Rattle.runs.specs.ErrorReports.{AllShow, ErrorReports}
 use Rattle.runs.specs.Tally.{tally_of, active_buffers, past, TallyHolds}
 use Rattle.runs.specs.Share.{holding, AllShared, LaneShare}
-use Rattle.runs.proofs.Theorems.{demand-3}
-use Rattle.runs.proofs.AcceptanceSteps.{launch-order}
-use Rattle.runs.proofs.Reporting.{error-reports}
+use Rattle.runs.proofs.Theorems.{demand_3}
+use Rattle.runs.proofs.AcceptanceSteps.{launch_order}
+use Rattle.runs.proofs.Reporting.{error_reports}
 use Rattle.runs.proofs.Reaching.{reached}
-use Rattle.runs.proofs.Tallied.{tally-holds}
-use Rattle.runs.proofs.Sharing.{lane-share}
+use Rattle.runs.proofs.Tallied.{tally_holds}
+use Rattle.runs.proofs.Sharing.{lane_share}
 use Rattle.area.specs.Written.{written}
 use Rattle.area.specs.declared.Read.{Read}
 use Rattle.area.specs.Read.{read_of}
-use Rattle.area.proofs.Exact.{area-exact}
+use Rattle.area.proofs.Exact.{area_exact_lem}
 use Rattle.grimholdi.specs.Outcome.{EntryOutcome}
 use Rattle.grimholdi.specs.Entry.{carried_out}
 use Rattle.grimholdi.specs.Asked.{Asked, control, poll, start_split, complete_split, launch, deliver, line_event, tick, bus_reset, call_of, reply_of, gives}
 use Rattle.grimholdi.specs.Runs.{seen, NewArea, filled, entries, AreaFollows}
-use Rattle.grimholdi.proofs.Entries.{entry-taken, new-made}
+use Rattle.grimholdi.proofs.Entries.{entry_taken, new_made}
 
 -- ---- bytes in a reply space that has room for them
 
-drop-seam : (xs ys : List ℕ) → drop (length xs) (xs ++ ys) ≡ ys
-drop-seam [] ys = refl
-drop-seam (x ∷ xs) ys = drop-seam xs ys
+drop_seam : (xs ys : List ℕ) → drop (length xs) (xs ++ ys) ≡ ys
+drop_seam [] ys = refl
+drop_seam (x ∷ xs) ys = drop_seam xs ys
 
-pub seen-is : (d r : List ℕ) → length d ≤ length r → take (length d) (payload.written d r) ≡ d
+pub seen_is : (d r : List ℕ) → length d ≤ length r → take (length d) (payload.written d r) ≡ d
 unfolding payload.written
-seen-is d r l = rw (take_all (length r) d l, take-append_seam d (drop (length d) r))
+seen_is d r l = rw (take_all (length r) d l, take-append_seam d (drop (length d) r))
 
-pub behind-is : (d r : List ℕ) → length d ≤ length r → drop (length d) (payload.written d r) ≡ drop (length d) r
+pub behind_is : (d r : List ℕ) → length d ≤ length r → drop (length d) (payload.written d r) ≡ drop (length d) r
 unfolding payload.written
-behind-is d r l = rw (take_all (length r) d l) (drop-seam d (drop (length d) r))
+behind_is d r l = rw (take_all (length r) d l) (drop_seam d (drop (length d) r))
 
-pub same-long : (d r : List ℕ) → length d ≤ length r → length (payload.written d r) ≡ length r
+pub same_long : (d r : List ℕ) → length d ≤ length r → length (payload.written d r) ≡ length r
 unfolding payload.written
-same-long d r l = rw (take_all (length r) d l) (length-append d (drop (length d) r) ∙ omega (arith, l, length-drop (length d) r))
+same_long d r l = rw (take_all (length r) d l) (length-append d (drop (length d) r) ∙ omega (arith, l, length-drop (length d) r))
 
-none-fits : (d r : List ℕ) → d ≡ [] → length d ≤ length r
-none-fits d r e = let z : length d ≡ 0 = ap length e in omega (arith, z)
+none_fits : (d r : List ℕ) → d ≡ [] → length d ≤ length r
+none_fits d r e = let z : length d ≡ 0 = ap length e in omega (arith, z)
 
 module _ (h : Hub) (v : ValidHub h) where
-  without-space : (c : Call) → has_space c ≡ false → (step h c).answer.bytes ≡ []
+  without_space : (c : Call) → has_space c ≡ false → (step h c).answer.bytes ≡ []
   unfolding step
-  without-space c p = go (within h c)
+  without_space c p = go (within h c)
     where
       go : (w : Bool)
           → (cond {A = Outcome} (eqb (first_refusal w (has_space c) (not_silent h c) (fitting h c)) 0) (served h c)
@@ -74,43 +74,43 @@ module _ (h : Hub) (v : ValidHub h) where
       go true = rw p
       go false = refl
 
-  room-enough : (c : Call) (r : List ℕ) → has_space c ≡ leb 64 (length r) → length (step h c).answer.bytes ≤ length r
-  room-enough c r e = go (leb 64 (length r)) refl
+  room_enough : (c : Call) (r : List ℕ) → has_space c ≡ leb 64 (length r) → length (step h c).answer.bytes ≤ length r
+  room_enough c r e = go (leb 64 (length r)) refl
     where
       go : (b : Bool) → leb 64 (length r) ≡ b → length (step h c).answer.bytes ≤ length r
       go true p =
-          let most : length (step h c).answer.bytes ≤ 64 = hub-claims.bytes_fit h v c in
+          let most : length (step h c).answer.bytes ≤ 64 = hub_claims_lem.bytes_fit h v c in
           let room : 64 ≤ length r = leb-true 64 (length r) p in
           omega (arith, most, room)
-      go false p = none-fits (step h c).answer.bytes r (without-space c (e ∙ p))
+      go false p = none_fits (step h c).answer.bytes r (without_space c (e ∙ p))
 
-  none-given : (c : Call) → (served h c).answer.bytes ≡ [] → (step h c).answer.bytes ≡ []
-  none-given c e = by-step h c (λ (o : Outcome). o.answer.bytes ≡ []) (λ n. refl) (λ w f. e)
+  none_given : (c : Call) → (served h c).answer.bytes ≡ [] → (step h c).answer.bytes ≡ []
+  none_given c e = by_step h c (λ (o : Outcome). o.answer.bytes ≡ []) (λ n. refl) (λ w f. e)
 
-  pub fits-reply : (x : Asked) → length (step h (call_of x)).answer.bytes ≤ length (reply_of x)
+  pub fits_reply : (x : Asked) → length (step h (call_of x)).answer.bytes ≤ length (reply_of x)
   unfolding has_space served
-  fits-reply (control z s r) = room-enough (Control z s (length r)) r refl
-  fits-reply (poll z r) = room-enough (Poll z (length r)) r refl
-  fits-reply (start_split z p t f g a e l) = none-fits _ [] (none-given (Start z p t f g a e l) refl)
-  fits-reply (complete_split z a e d r) = room-enough (Complete z a e d (length r)) r refl
-  fits-reply (launch r) = room-enough (Launch (length r)) r refl
-  fits-reply (deliver n l) = none-fits _ [] (none-given (Deliver n l) refl)
-  fits-reply (line_event e n) = none-fits _ [] (none-given (LineEvent e n) refl)
-  fits-reply tick = none-fits _ [] (none-given Tick refl)
-  fits-reply bus_reset = none-fits _ [] (none-given BusReset refl)
+  fits_reply (control z s r) = room_enough (Control z s (length r)) r refl
+  fits_reply (poll z r) = room_enough (Poll z (length r)) r refl
+  fits_reply (start_split z p t f g a e l) = none_fits _ [] (none_given (Start z p t f g a e l) refl)
+  fits_reply (complete_split z a e d r) = room_enough (Complete z a e d (length r)) r refl
+  fits_reply (launch r) = room_enough (Launch (length r)) r refl
+  fits_reply (deliver n l) = none_fits _ [] (none_given (Deliver n l) refl)
+  fits_reply (line_event e n) = none_fits _ [] (none_given (LineEvent e n) refl)
+  fits_reply tick = none_fits _ [] (none_given Tick refl)
+  fits_reply bus_reset = none_fits _ [] (none_given BusReset refl)
 
   -- ---- one entry on the written form of a valid hub
 
-  pub gives-taken : (x : Asked) → gives (written h) x ≡ carried_out (step h (call_of x)) (reply_of x)
-  gives-taken x = entry-taken (written h) (record { ok = true; hub = h }) (sym (area-exact.again h v)) refl (call_of x) (reply_of x)
+  pub gives_taken : (x : Asked) → gives (written h) x ≡ carried_out (step h (call_of x)) (reply_of x)
+  gives_taken x = entry_taken (written h) (record { ok = true; hub = h }) (sym (area_exact_lem.again h v)) refl (call_of x) (reply_of x)
 
-  pub answer-same : (x : Asked) → seen (gives (written h) x) ≡ (step h (call_of x)).answer
-  answer-same x =
+  pub answer_same : (x : Asked) → seen (gives (written h) x) ≡ (step h (call_of x)).answer
+  answer_same x =
       let a = (step h (call_of x)).answer in
-      ap seen (gives-taken x) ∙ ap (with_bytes a) (seen-is a.bytes (reply_of x) (fits-reply x))
+      ap seen (gives_taken x) ∙ ap (with_bytes a) (seen_is a.bytes (reply_of x) (fits_reply x))
 
-  pub next-same : (x : Asked) → (gives (written h) x).area ≡ written (step h (call_of x)).next
-  next-same x = ap (λ (g : EntryOutcome). g.area) (gives-taken x)
+  pub next_same : (x : Asked) → (gives (written h) x).area ≡ written (step h (call_of x)).next
+  next_same x = ap (λ (g : EntryOutcome). g.area) (gives_taken x)
 
 -- ---- runs
 
@@ -119,78 +119,78 @@ unfolding run_from
 follows [] h v = refl
 follows (x ∷ xs) h v =
     ap₂ (λ (e : Event) (es : List Event). e ∷ es)
-    (ap (λ (a : hub.Answer). record { call = call_of x; answer = a }) (answer-same h v x))
-    (ap (λ (a : List ℕ). run_from entries a xs) (next-same h v x)
-    ∙ follows xs (step h (call_of x)).next (hub-claims.step-valid h v (call_of x)))
+    (ap (λ (a : hub.Answer). record { call = call_of x; answer = a }) (answer_same h v x))
+    (ap (λ (a : List ℕ). run_from entries a xs) (next_same h v x)
+    ∙ follows xs (step h (call_of x)).next (hub_claims_lem.step_valid h v (call_of x)))
 
 leaves : (xs : List Asked) (h : Hub) → ValidHub h → after_from entries (written h) xs ≡ written (after_from rules h (map call_of xs))
 unfolding after_from
 leaves [] h v = refl
 leaves (x ∷ xs) h v =
-    ap (λ (a : List ℕ). after_from entries a xs) (next-same h v x)
-    ∙ leaves xs (step h (call_of x)).next (hub-claims.step-valid h v (call_of x))
+    ap (λ (a : List ℕ). after_from entries a xs) (next_same h v x)
+    ∙ leaves xs (step h (call_of x)).next (hub_claims_lem.step_valid h v (call_of x))
 
 module _ (m : NewArea) where
-  pub new-hub : ValidHub (new_hub_of m.numbers)
-  new-hub =
+  pub new_hub_lem : ValidHub (new_hub_of m.numbers)
+  new_hub_lem =
       let n = m.numbers in
-      hub-claims.new-valid n.ports n.buffers n.powergood n.current n.removable n.fit
+      hub_claims_lem.new_valid n.ports n.buffers n.powergood n.current n.removable n.fit
 
   pub filled_is : filled m ≡ written (new_hub_of m.numbers)
   filled_is =
       let n = m.numbers in
-      ap (λ (g : EntryOutcome). g.area) (new-made m.memory n.ports n.buffers n.powergood n.current n.removable n.fit m.long)
+      ap (λ (g : EntryOutcome). g.area) (new_made m.memory n.ports n.buffers n.powergood n.current n.removable n.fit m.long)
 
-pub demand-2 : Demand2 entries
-demand-2 m xs = ap (λ (a : List ℕ). run_from entries a xs) (filled_is m) ∙ follows xs (new_hub_of m.numbers) (new-hub m)
+pub demand_2 : Demand2 entries
+demand_2 m xs = ap (λ (a : List ℕ). run_from entries a xs) (filled_is m) ∙ follows xs (new_hub_of m.numbers) (new_hub_lem m)
 
-pub area-follows : AreaFollows gives
-area-follows m xs = ap (λ (a : List ℕ). after_from entries a xs) (filled_is m) ∙ leaves xs (new_hub_of m.numbers) (new-hub m)
+pub area_follows : AreaFollows gives
+area_follows m xs = ap (λ (a : List ℕ). after_from entries a xs) (filled_is m) ∙ leaves xs (new_hub_of m.numbers) (new_hub_lem m)
 
 -- a machine that keeps demand 2 keeps what the rules' runs keep
 module _ (w : Machine) (d : Demand2 w) where
-  abbrev ruled-run : w.Made → List w.Asked → List Event
-  ruled-run n cs = run rules (w.numbers n) (map w.call cs)
+  abbrev ruled_run : w.Made → List w.Asked → List Event
+  ruled_run n cs = run rules (w.numbers n) (map w.call cs)
 
   hidden : (k : Marks) → Hidden w k
   hidden k n o cs ds e s =
       subst (λ (x : List Event). SameAnswers k x (run w o ds)) (sym (d n cs))
-      (subst (λ (y : List Event). SameAnswers k (ruled-run n cs) y) (sym (d o ds))
-      (demand-3.set-hidden k (w.numbers n) (w.numbers o) (map w.call cs) (map w.call ds) e
-      (subst (λ (y : List Event). SameCalls k [] (ruled-run n cs) y) (d o ds)
+      (subst (λ (y : List Event). SameAnswers k (ruled_run n cs) y) (sym (d o ds))
+      (demand_3.set_hidden k (w.numbers n) (w.numbers o) (map w.call cs) (map w.call ds) e
+      (subst (λ (y : List Event). SameCalls k [] (ruled_run n cs) y) (d o ds)
       (subst (λ (x : List Event). SameCalls k [] x (run w o ds)) (d n cs) s))))
 
-  pub carried-3 : Demand3 w
-  carried-3 =
+  pub carried_3 : Demand3 w
+  carried_3 =
       record {
-        set-hidden = hidden;
-        mark-hidden = λ m. hidden (only_key m);
-        lane-hidden = λ z. hidden (every_key_of z);
-        data-explained = λ n cs. subst (AllExplained []) (sym (d n cs)) (demand-3.data-explained (w.numbers n) (map w.call cs));
+        set_hidden = hidden;
+        mark_hidden = λ m. hidden (only_key m);
+        lane_hidden = λ z. hidden (every_key_of z);
+        data_explained = λ n cs. subst (AllExplained []) (sym (d n cs)) (demand_3.data_explained (w.numbers n) (map w.call cs));
       }
 
-  pub carried-order : LaunchOrder w
-  carried-order n cs = subst (AllOrdered []) (sym (d n cs)) (launch-order (w.numbers n) (map w.call cs))
+  pub carried_order : LaunchOrder w
+  carried_order n cs = subst (AllOrdered []) (sym (d n cs)) (launch_order (w.numbers n) (map w.call cs))
 
-  pub carried-reports : ErrorReports w
-  carried-reports n cs = subst (AllShow []) (sym (d n cs)) (error-reports (w.numbers n) (map w.call cs))
+  pub carried_reports : ErrorReports w
+  carried_reports n cs = subst (AllShow []) (sym (d n cs)) (error_reports (w.numbers n) (map w.call cs))
 
-  pub carried-share : LaneShare w
-  carried-share =
+  pub carried_share : LaneShare w
+  carried_share =
       record {
-        few = λ z n cs. subst (λ (es : List Event). holding z (past [] es) < (w.numbers n).buffers) (sym (d n cs)) (lane-share.few z (w.numbers n) (map w.call cs));
-        served = λ n cs. subst (AllShared []) (sym (d n cs)) (lane-share.served (w.numbers n) (map w.call cs));
+        few = λ z n cs. subst (λ (es : List Event). holding z (past [] es) < (w.numbers n).buffers) (sym (d n cs)) (lane_share.few z (w.numbers n) (map w.call cs));
+        served = λ n cs. subst (AllShared []) (sym (d n cs)) (lane_share.served (w.numbers n) (map w.call cs));
       }
 
 -- the hub that is read from the area is the one that the rules leave
 pub read-reached : (m : NewArea) (xs : List Asked) → (read_of (after_from entries (filled m) xs)).hub ≡ after_from rules (new_hub_of m.numbers) (map call_of xs)
 read-reached m xs =
-    ap (λ (a : List ℕ). (read_of a).hub) (area-follows m xs)
-    ∙ ap (λ (r : Read). r.hub) (area-exact.again (after_from rules (new_hub_of m.numbers) (map call_of xs)) (reached m.numbers (map call_of xs)))
+    ap (λ (a : List ℕ). (read_of a).hub) (area_follows m xs)
+    ∙ ap (λ (r : Read). r.hub) (area_exact_lem.again (after_from rules (new_hub_of m.numbers) (map call_of xs)) (reached m.numbers (map call_of xs)))
 
-pub carried-tally : TallyHolds entries (λ a. active_buffers (read_of a).hub)
-carried-tally m xs =
+pub carried_tally : TallyHolds entries (λ a. active_buffers (read_of a).hub)
+carried_tally m xs =
     subst (λ (h : Hub). (tally_of (past [] (run entries m xs))).stored ≡ (tally_of (past [] (run entries m xs))).answered + (tally_of (past [] (run entries m xs))).emptied + active_buffers h)
     (sym (read-reached m xs))
     (subst (λ (es : List Event). (tally_of (past [] es)).stored ≡ (tally_of (past [] es)).answered + (tally_of (past [] es)).emptied + active_buffers (after_from rules (new_hub_of m.numbers) (map call_of xs)))
-    (sym (demand-2 m xs)) (tally-holds m.numbers (map call_of xs)))
+    (sym (demand_2 m xs)) (tally_holds m.numbers (map call_of xs)))

@@ -30,11 +30,11 @@ use Rattle.hub.specs.Step.{served, step}
 use Rattle.area_check.specs.Read.{accepts}
 use Rattle.area_parts.specs.declared.Head.{Head}
 use Rattle.area_parts.specs.Parts.{head_at, buffer_at, slots_at, buffer_over}
-use Rattle.area_parts.proofs.Exact.{parts-exact}
+use Rattle.area_parts.proofs.Exact.{parts_exact_lem}
 use Rattle.grimholdi.specs.declared.Answer.{Answer}
 use Rattle.grimholdi.specs.Outcome.{plain_struct}
 use Rattle.grimholdi.specs.Entry.{result_struct}
-use Rattle.grimholdi.proofs.Taken.{hub_in, valid, form, head-is, configured-is, slots-are, buffer-is, early, ruled, Gives, Unchanged, moves, stays}
+use Rattle.grimholdi.proofs.Taken.{hub_in, valid, form, head_is, configured_is, slots_are, buffer_is, early, ruled, Gives, Unchanged, moves, stays}
 
 module _ (a : List ℕ) (ok : accepts a ≡ true) (hd : Head) (e : hd ≡ head_at a) (lane address endpoint direction : ℕ) {w : Bool}
     (ew : w ≡ key_named lane address endpoint direction) (r : List ℕ) {n : ℕ} (g : n ≡ first_refusal w (leb 64 (length r)) hd.configured true) where
@@ -47,52 +47,52 @@ module _ (a : List ℕ) (ok : accepts a ≡ true) (hd : Head) (e : hd ≡ head_a
   abbrev call : Call
   call = Complete lane address endpoint direction (length r)
 
-  pub complete-refused : ¬ (n ≡ 0) → (x : Answer) → x ≡ plain_struct n → Unchanged a call r x
+  pub complete_refused : ¬ (n ≡ 0) → (x : Answer) → x ≡ plain_struct n → Unchanged a call r x
   unfolding within has_space not_silent
-  complete-refused z x ex = stays a ok call r n (early a ok call g ew refl (configured-is a ok hd e) z) x ex
+  complete_refused z x ex = stays a ok call r n (early a ok call g ew refl (configured_is a ok hd e) z) x ex
 
   module _ (z : n ≡ 0) (s : List Slot) (es : s ≡ slots_at hd.ports.0 a) (k : Key) (ek : k ≡ key_from lane address endpoint direction) {f : Found}
       (ef : f ≡ find (holds k) (take hd.count.0 (bare s))) where
-    by-found : (b : Found) → f ≡ b → step h call ≡ completed_as h (complete_at t b)
+    by_found : (b : Found) → f ≡ b → step h call ≡ completed_as h (complete_at t b)
     unfolding within has_space not_silent fitting served complete_split
-    by-found b i =
-        ruled a ok call g ew refl (configured-is a ok hd e) z (λ p. absurd (true≢false p))
+    by_found b i =
+        ruled a ok call g ew refl (configured_is a ok hd e) z (λ p. absurd (true≢false p))
         ∙ ap (λ (x : Key). completed_as h (complete_at t (find (holds x) (take t.count t.buffers)))) (sym ek)
         ∙ ap (λ (x : Found). completed_as h (complete_at t x))
         (sym (find-bare (holds k) t.count t.buffers)
-        ∙ ap (λ (x : List Slot). find (holds k) (take t.count (bare x))) (sym (slots-are a ok hd e s es))
-        ∙ ap (λ (x : Head). find (holds k) (take x.count.0 (bare s))) (sym (head-is a ok hd e))
+        ∙ ap (λ (x : List Slot). find (holds k) (take t.count (bare x))) (sym (slots_are a ok hd e s es))
+        ∙ ap (λ (x : Head). find (holds k) (take x.count.0 (bare s))) (sym (head_is a ok hd e))
         ∙ sym ef
         ∙ i)
 
     pub nowhere : f ≡ Nowhere → (x : Answer) → x ≡ plain_struct 2 → Unchanged a call r x
-    nowhere i x ex = stays a ok call r 2 (by-found Nowhere i) x ex
+    nowhere i x ex = stays a ok call r 2 (by_found Nowhere i) x ex
 
     module _ {m : BufferNumber} (p : f ≡ At m) (b : Buffer) (eb : b ≡ buffer_at hd.ports.0 m a) where
-      by-slot : (c : Slot) → b.slot ≡ c → step h call ≡ completed_as h (completed t m b.payload c)
-      by-slot c i =
-          by-found (At m) p
-          ∙ ap (λ (x : Buffer). completed_as h (completed t m x.payload x.slot)) (sym (buffer-is a ok hd e m b eb))
+      by_slot : (c : Slot) → b.slot ≡ c → step h call ≡ completed_as h (completed t m b.payload c)
+      by_slot c i =
+          by_found (At m) p
+          ∙ ap (λ (x : Buffer). completed_as h (completed t m x.payload x.slot)) (sym (buffer_is a ok hd e m b eb))
           ∙ ap (λ (x : Slot). completed_as h (completed t m b.payload x)) i
 
-      pub on-empty : b.slot ≡ Empty → (x : Answer) → x ≡ plain_struct 2 → Unchanged a call r x
-      on-empty i x ex = stays a ok call r 2 (by-slot Empty i) x ex
+      pub on_empty : b.slot ≡ Empty → (x : Answer) → x ≡ plain_struct 2 → Unchanged a call r x
+      on_empty i x ex = stays a ok call r 2 (by_slot Empty i) x ex
 
-      pub on-pending : {k : StartSplit} {d : ℕ} → b.slot ≡ Pending k d → (x : Answer) → x ≡ plain_struct 4 → Unchanged a call r x
-      on-pending i x ex = stays a ok call r 4 (by-slot _ i) x ex
+      pub on_pending : {k : StartSplit} {d : ℕ} → b.slot ≡ Pending k d → (x : Answer) → x ≡ plain_struct 4 → Unchanged a call r x
+      on_pending i x ex = stays a ok call r 4 (by_slot _ i) x ex
 
-      pub on-ready : {k : StartSplit} {d : DeviceResult} → b.slot ≡ Ready k d → (x : Answer) (u v : List ℕ)
+      pub on_ready : {k : StartSplit} {d : DeviceResult} → b.slot ≡ Ready k d → (x : Answer) (u v : List ℕ)
           → u ≡ buffer_over hd.ports.0 m (record { slot = Old k d; payload = b.payload }) a
           → (x ≡ result_struct d (content (given d b.payload))) × (v ≡ written (content (given d b.payload)) r) → Gives a call r x u v
-      on-ready {k} {d} i x u v eu q =
+      on_ready {k} {d} i x u v eu q =
           let old : Buffer = record { slot = Old k d; payload = b.payload } in
-          moves a ok call r _ (by-slot (Ready k d) i) x u v q.0
+          moves a ok call r _ (by_slot (Ready k d) i) x u v q.0
           (eu
-          ∙ ap (λ (y : Head). buffer_over y.ports.0 m old a) (head-is a ok hd e)
+          ∙ ap (λ (y : Head). buffer_over y.ports.0 m old a) (head_is a ok hd e)
           ∙ ap (buffer_over h.identity.ports m old) (form a ok)
-          ∙ parts-exact.buffer-put h m old (valid a ok))
+          ∙ parts_exact_lem.buffer_put_lem h m old (valid a ok))
           q.1
 
-      pub on-old : {k : StartSplit} {d : DeviceResult} → b.slot ≡ Old k d → (x : Answer) (v : List ℕ)
+      pub on_old : {k : StartSplit} {d : DeviceResult} → b.slot ≡ Old k d → (x : Answer) (v : List ℕ)
           → (x ≡ result_struct d (content (given d b.payload))) × (v ≡ written (content (given d b.payload)) r) → Gives a call r x a v
-      on-old {k} {d} i x v q = moves a ok call r _ (by-slot (Old k d) i) x a v q.0 (form a ok) q.1
+      on_old {k} {d} i x v q = moves a ok call r _ (by_slot (Old k d) i) x a v q.0 (form a ok) q.1

@@ -33,32 +33,32 @@ use Rattle.area.specs.Written.{written as form_of}
 use Rattle.area_check.specs.Read.{accepts}
 use Rattle.area_parts.specs.declared.Head.{Head}
 use Rattle.area_parts.specs.Parts.{head_at, buffer_at, low_over, buffer_over}
-use Rattle.area_parts.proofs.Anew.{Shaped, shaped, buffer-anew}
-use Rattle.area_parts.proofs.Exact.{parts-exact}
+use Rattle.area_parts.proofs.Anew.{Shaped, shaped, buffer_anew}
+use Rattle.area_parts.proofs.Exact.{parts_exact_lem}
 use Rattle.grimholdi.specs.declared.Answer.{Answer}
 use Rattle.grimholdi.specs.Outcome.{plain_struct}
-use Rattle.grimholdi.proofs.Taken.{hub_in, valid, form, head-is, configured-is, buffer-is, early, ruled, all_held, Leaves, leaves, rests}
+use Rattle.grimholdi.proofs.Taken.{hub_in, valid, form, head_is, configured_is, buffer_is, early, ruled, all_held, Leaves, leaves, rests}
 
 -- a delivery that is answered 8 changes nothing
 module _ (h : Hub) (r : DeviceResult) (l : List ℕ) where
   abbrev Eight : Delivered → Type 0
   Eight x = not (eqb (deliver_number x.answer) 8) ≡ false → delivered_as h x ≡ plain h 8
 
-  unfit-test : (b : Bool) (x : Delivered) → deliver_number x.answer ≡ 0 → Eight (cond b x (undelivered h.translator NotInThisState))
-  unfit-test true x z e = absurd (true≢false (ap (λ (n : ℕ). not (eqb n 8)) (sym z) ∙ e))
-  unfit-test false x z e = refl
+  unfit_test : (b : Bool) (x : Delivered) → deliver_number x.answer ≡ 0 → Eight (cond b x (undelivered h.translator NotInThisState))
+  unfit_test true x z e = absurd (true≢false (ap (λ (n : ℕ). not (eqb n 8)) (sym z) ∙ e))
+  unfit_test false x z e = refl
 
-  unfit-slot : (m : BufferNumber) (s : Slot) → Eight (delivered h.translator r l m s)
-  unfit-slot m Empty e = refl
-  unfit-slot m (Pending s q) e = unfit-test (suits s.pid r) _ refl e
-  unfit-slot m (Ready s q) e = refl
-  unfit-slot m (Old s q) e = refl
+  unfit_slot : (m : BufferNumber) (s : Slot) → Eight (delivered h.translator r l m s)
+  unfit_slot m Empty e = refl
+  unfit_slot m (Pending s q) e = unfit_test (suits s.pid r) _ refl e
+  unfit_slot m (Ready s q) e = refl
+  unfit_slot m (Old s q) e = refl
 
-  unfit-by : (b : Bool) (low : LowSide) → Eight (cond b (deliver_by h.translator r l low) (undelivered h.translator Outside))
-  unfit-by true Idle e = refl
-  unfit-by true (Running m) e = unfit-slot m (at h.translator.buffers m.0).slot e
-  unfit-by true Abandoned e = absurd (true≢false e)
-  unfit-by false low e = absurd (true≢false e)
+  unfit_by : (b : Bool) (low : LowSide) → Eight (cond b (deliver_by h.translator r l low) (undelivered h.translator Outside))
+  unfit_by true Idle e = refl
+  unfit_by true (Running m) e = unfit_slot m (at h.translator.buffers m.0).slot e
+  unfit_by true Abandoned e = absurd (true≢false e)
+  unfit_by false low e = absurd (true≢false e)
 
 module _ (a : List ℕ) (ok : accepts a ≡ true) (hd : Head) (e : hd ≡ head_at a) (result : ℕ) (l : List ℕ) (k : DeviceResult) (ek : k ≡ result_from result)
     {w : Bool} (ew : w ≡ (is_result result && result_length k (length l))) {n : ℕ} (g : n ≡ first_refusal w true hd.configured true) where
@@ -71,56 +71,56 @@ module _ (a : List ℕ) (ok : accepts a ≡ true) (hd : Head) (e : hd ≡ head_a
   abbrev call : Call
   call = Deliver result l
 
-  within-is : w ≡ within h call
+  within_is : w ≡ within h call
   unfolding within
-  within-is = ew ∙ ap (λ (x : DeviceResult). is_result result && result_length x (length l)) ek
+  within_is = ew ∙ ap (λ (x : DeviceResult). is_result result && result_length x (length l)) ek
 
-  pub deliver-refused : ¬ (n ≡ 0) → (x : Answer) → x ≡ plain_struct n → Leaves a call x a
+  pub deliver_refused : ¬ (n ≡ 0) → (x : Answer) → x ≡ plain_struct n → Leaves a call x a
   unfolding has_space not_silent
-  deliver-refused z x ex = rests a ok call n (early a ok call g within-is refl (configured-is a ok hd e) z) x ex
+  deliver_refused z x ex = rests a ok call n (early a ok call g within_is refl (configured_is a ok hd e) z) x ex
 
   module _ (z : n ≡ 0) where
-    long-enough : result_length (result_from result) (length l) ≡ true
-    long-enough = right (is_result result) (result_length (result_from result) (length l)) (sym within_of ∙ all_held w true hd.configured (sym z ∙ g))
+    long_enough : result_length (result_from result) (length l) ≡ true
+    long_enough = right (is_result result) (result_length (result_from result) (length l)) (sym within_of ∙ all_held w true hd.configured (sym z ∙ g))
       where
         within_of : w ≡ (is_result result && result_length (result_from result) (length l))
         within_of = ew ∙ ap (λ (x : DeviceResult). is_result result && result_length x (length l)) ek
 
-    served-is : step h call ≡ delivered_as h (deliver_by t k l hd.low)
+    served_is : step h call ≡ delivered_as h (deliver_by t k l hd.low)
     unfolding has_space not_silent fitting served deliver
-    served-is =
-        ruled a ok call g within-is refl (configured-is a ok hd e) z (unfit-by h (result_from result) l (result_length (result_from result) (length l)) t.low)
-        ∙ ap (λ (b : Bool). delivered_as h (cond b (deliver_by t (result_from result) l t.low) (undelivered t Outside))) long-enough
+    served_is =
+        ruled a ok call g within_is refl (configured_is a ok hd e) z (unfit_by h (result_from result) l (result_length (result_from result) (length l)) t.low)
+        ∙ ap (λ (b : Bool). delivered_as h (cond b (deliver_by t (result_from result) l t.low) (undelivered t Outside))) long_enough
         ∙ ap (λ (x : DeviceResult). delivered_as h (deliver_by t x l t.low)) (sym ek)
-        ∙ ap (λ (x : Head). delivered_as h (deliver_by t k l x.low)) (sym (head-is a ok hd e))
+        ∙ ap (λ (x : Head). delivered_as h (deliver_by t k l x.low)) (sym (head_is a ok hd e))
 
-    by-low : (b : LowSide) → hd.low ≡ b → step h call ≡ delivered_as h (deliver_by t k l b)
-    by-low b i = served-is ∙ ap (λ (x : LowSide). delivered_as h (deliver_by t k l x)) i
+    by_low : (b : LowSide) → hd.low ≡ b → step h call ≡ delivered_as h (deliver_by t k l b)
+    by_low b i = served_is ∙ ap (λ (x : LowSide). delivered_as h (deliver_by t k l x)) i
 
     pub idle : hd.low ≡ Idle → (x : Answer) → x ≡ plain_struct 8 → Leaves a call x a
-    idle i x ex = rests a ok call 8 (by-low Idle i) x ex
+    idle i x ex = rests a ok call 8 (by_low Idle i) x ex
 
-    low-left : low_over Idle a ≡ form_of (with_translator h (with_low t Idle))
-    low-left = ap (low_over Idle) (form a ok) ∙ parts-exact.low-put h Idle (valid a ok)
+    low_left : low_over Idle a ≡ form_of (with_translator h (with_low t Idle))
+    low_left = ap (low_over Idle) (form a ok) ∙ parts_exact_lem.low_put h Idle (valid a ok)
 
     -- the delivery is thrown away
     pub abandoned : hd.low ≡ Abandoned → (x : Answer) (u : List ℕ) → x ≡ plain_struct 0 → u ≡ low_over Idle a → Leaves a call x u
-    abandoned i x u ex eu = leaves a ok call _ (by-low Abandoned i) x u ex (eu ∙ low-left)
+    abandoned i x u ex eu = leaves a ok call _ (by_low Abandoned i) x u ex (eu ∙ low_left)
 
     module _ {m : BufferNumber} (i : hd.low ≡ Running m) (s : Slot) (es : s ≡ (buffer_at hd.ports.0 m a).slot) where
-      by-slot : (b : Slot) → s ≡ b → step h call ≡ delivered_as h (delivered t k l m b)
-      by-slot b j =
-          by-low (Running m) i
-          ∙ ap (λ (x : Slot). delivered_as h (delivered t k l m x)) (sym (es ∙ ap (λ (x : Buffer). x.slot) (buffer-is a ok hd e m _ refl)) ∙ j)
+      by_slot : (b : Slot) → s ≡ b → step h call ≡ delivered_as h (delivered t k l m b)
+      by_slot b j =
+          by_low (Running m) i
+          ∙ ap (λ (x : Slot). delivered_as h (delivered t k l m x)) (sym (es ∙ ap (λ (x : Buffer). x.slot) (buffer_is a ok hd e m _ refl)) ∙ j)
 
-      pub on-empty : s ≡ Empty → (x : Answer) → x ≡ plain_struct 8 → Leaves a call x a
-      on-empty j x ex = rests a ok call 8 (by-slot Empty j) x ex
+      pub on_empty : s ≡ Empty → (x : Answer) → x ≡ plain_struct 8 → Leaves a call x a
+      on_empty j x ex = rests a ok call 8 (by_slot Empty j) x ex
 
-      pub on-ready : {p : StartSplit} {d : DeviceResult} → s ≡ Ready p d → (x : Answer) → x ≡ plain_struct 8 → Leaves a call x a
-      on-ready j x ex = rests a ok call 8 (by-slot _ j) x ex
+      pub on_ready : {p : StartSplit} {d : DeviceResult} → s ≡ Ready p d → (x : Answer) → x ≡ plain_struct 8 → Leaves a call x a
+      on_ready j x ex = rests a ok call 8 (by_slot _ j) x ex
 
-      pub on-old : {p : StartSplit} {d : DeviceResult} → s ≡ Old p d → (x : Answer) → x ≡ plain_struct 8 → Leaves a call x a
-      on-old j x ex = rests a ok call 8 (by-slot _ j) x ex
+      pub on_old : {p : StartSplit} {d : DeviceResult} → s ≡ Old p d → (x : Answer) → x ≡ plain_struct 8 → Leaves a call x a
+      on_old j x ex = rests a ok call 8 (by_slot _ j) x ex
 
       module _ {p : StartSplit} {d : ℕ} (j : s ≡ Pending p d) {f : Bool} (ef : f ≡ suits p.pid k) where
         abbrev ready : Delivered
@@ -130,21 +130,21 @@ module _ (a : List ℕ) (ok : accepts a ≡ true) (hd : Head) (e : hd ≡ head_a
               answer = Done;
             }
 
-        by-test : (b : Bool) → f ≡ b → step h call ≡ delivered_as h (cond b ready (undelivered t NotInThisState))
-        by-test b q = by-slot (Pending p d) j ∙ ap (λ (x : Bool). delivered_as h (cond x ready (undelivered t NotInThisState))) (sym ef ∙ q)
+        by_test : (b : Bool) → f ≡ b → step h call ≡ delivered_as h (cond b ready (undelivered t NotInThisState))
+        by_test b q = by_slot (Pending p d) j ∙ ap (λ (x : Bool). delivered_as h (cond x ready (undelivered t NotInThisState))) (sym ef ∙ q)
 
         pub unsuited : f ≡ false → (x : Answer) → x ≡ plain_struct 8 → Leaves a call x a
-        unsuited q x ex = rests a ok call 8 (by-test false q) x ex
+        unsuited q x ex = rests a ok call 8 (by_test false q) x ex
 
         pub suited : f ≡ true → (x : Answer) (u : List ℕ) → x ≡ plain_struct 0
             → u ≡ buffer_over hd.ports.0 m (record { slot = Ready p k; payload = payload_of l }) (low_over Idle a) → Leaves a call x u
         suited q x u ex eu =
             let b : Buffer = record { slot = Ready p k; payload = payload_of l } in
-            leaves a ok call _ (by-test true q) x u ex
+            leaves a ok call _ (by_test true q) x u ex
             (eu
-            ∙ ap (buffer_over hd.ports.0 m b) low-left
-            ∙ ap (λ (y : Head). buffer_over y.ports.0 m b (form_of (with_translator h (with_low t Idle)))) (head-is a ok hd e)
-            ∙ buffer-anew (with_translator h (with_low t Idle)) between m b)
+            ∙ ap (buffer_over hd.ports.0 m b) low_left
+            ∙ ap (λ (y : Head). buffer_over y.ports.0 m b (form_of (with_translator h (with_low t Idle)))) (head_is a ok hd e)
+            ∙ buffer_anew (with_translator h (with_low t Idle)) between m b)
           where
             between : Shaped (with_translator h (with_low t Idle))
             between = let v = shaped h (valid a ok) in record { ports = v.ports; buffers = v.buffers; whole = v.whole }

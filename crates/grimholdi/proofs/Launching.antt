@@ -31,16 +31,16 @@ use Rattle.hub.specs.Step.{served, step}
 use Rattle.area_check.specs.Read.{accepts}
 use Rattle.area_parts.specs.declared.Head.{Head}
 use Rattle.area_parts.specs.Parts.{head_at, buffer_at, slots_at, low_over}
-use Rattle.area_parts.proofs.Exact.{parts-exact}
+use Rattle.area_parts.proofs.Exact.{parts_exact_lem}
 use Rattle.grimholdi.specs.declared.Answer.{Answer}
 use Rattle.grimholdi.specs.Outcome.{plain_struct}
 use Rattle.grimholdi.specs.Entry.{struct_of}
-use Rattle.grimholdi.proofs.Taken.{hub_in, valid, form, head-is, configured-is, slots-are, buffer-is, early, ruled, Gives, Unchanged, moves, stays}
+use Rattle.grimholdi.proofs.Taken.{hub_in, valid, form, head_is, configured_is, slots_are, buffer_is, early, ruled, Gives, Unchanged, moves, stays}
 
 -- while the low side is idle a launch is never answered 8
-idle-fits : (t : Translator) (e : Earliest) → not (eqb (launch_number (launch_at t e).answer) 8) ≡ true
-idle-fits t NonePending = refl
-idle-fits t (Stored n q) = go (at t.buffers n.0).slot
+idle_fits : (t : Translator) (e : Earliest) → not (eqb (launch_number (launch_at t e).answer) 8) ≡ true
+idle_fits t NonePending = refl
+idle_fits t (Stored n q) = go (at t.buffers n.0).slot
   where
     go : (s : Slot) → not (eqb (launch_number (launched t n (at t.buffers n.0).payload s).answer) 8) ≡ true
     go Empty = refl
@@ -52,7 +52,7 @@ unfit : (h : Hub) (l : LowSide) → not (eqb (launch_number (launch_by h.transla
     → launched_as h (launch_by h.translator l) ≡ plain h 8
 unfit h Idle e =
     let t = h.translator in
-    absurd (true≢false (sym (idle-fits t (earliest (take t.count t.buffers))) ∙ e))
+    absurd (true≢false (sym (idle_fits t (earliest (take t.count t.buffers))) ∙ e))
 unfit h (Running n) e = refl
 unfit h Abandoned e = refl
 
@@ -67,56 +67,56 @@ module _ (a : List ℕ) (ok : accepts a ≡ true) (hd : Head) (e : hd ≡ head_a
   abbrev call : Call
   call = Launch (length r)
 
-  pub launch-refused : ¬ (n ≡ 0) → (x : Answer) → x ≡ plain_struct n → Unchanged a call r x
+  pub launch_refused : ¬ (n ≡ 0) → (x : Answer) → x ≡ plain_struct n → Unchanged a call r x
   unfolding within has_space not_silent
-  launch-refused z x ex = stays a ok call r n (early a ok call g refl refl (configured-is a ok hd e) z) x ex
+  launch_refused z x ex = stays a ok call r n (early a ok call g refl refl (configured_is a ok hd e) z) x ex
 
   module _ (z : n ≡ 0) where
-    served-is : step h call ≡ launched_as h (launch_by t hd.low)
+    served_is : step h call ≡ launched_as h (launch_by t hd.low)
     unfolding within has_space not_silent fitting served launch
-    served-is =
-        ruled a ok call g refl refl (configured-is a ok hd e) z (unfit h t.low)
-        ∙ ap (λ (x : Head). launched_as h (launch_by t x.low)) (sym (head-is a ok hd e))
+    served_is =
+        ruled a ok call g refl refl (configured_is a ok hd e) z (unfit h t.low)
+        ∙ ap (λ (x : Head). launched_as h (launch_by t x.low)) (sym (head_is a ok hd e))
 
     pub running : {m : BufferNumber} → hd.low ≡ Running m → (x : Answer) → x ≡ plain_struct 8 → Unchanged a call r x
-    running l x ex = stays a ok call r 8 (served-is ∙ ap (λ (y : LowSide). launched_as h (launch_by t y)) l) x ex
+    running l x ex = stays a ok call r 8 (served_is ∙ ap (λ (y : LowSide). launched_as h (launch_by t y)) l) x ex
 
     pub abandoned : hd.low ≡ Abandoned → (x : Answer) → x ≡ plain_struct 8 → Unchanged a call r x
-    abandoned l x ex = stays a ok call r 8 (served-is ∙ ap (λ (y : LowSide). launched_as h (launch_by t y)) l) x ex
+    abandoned l x ex = stays a ok call r 8 (served_is ∙ ap (λ (y : LowSide). launched_as h (launch_by t y)) l) x ex
 
     module _ (l : hd.low ≡ Idle) (s : List Slot) (es : s ≡ slots_at hd.ports.0 a) {f : Earliest} (ef : f ≡ earliest (take hd.count.0 (bare s))) where
       idle : step h call ≡ launched_as h (launch_at t f)
       idle =
-          served-is
+          served_is
           ∙ ap (λ (y : LowSide). launched_as h (launch_by t y)) l
           ∙ ap (λ (y : Earliest). launched_as h (launch_at t y))
           (sym (earliest-bare t.count t.buffers)
-          ∙ ap (λ (y : List Slot). earliest (take t.count (bare y))) (sym (slots-are a ok hd e s es))
-          ∙ ap (λ (y : Head). earliest (take y.count.0 (bare s))) (sym (head-is a ok hd e))
+          ∙ ap (λ (y : List Slot). earliest (take t.count (bare y))) (sym (slots_are a ok hd e s es))
+          ∙ ap (λ (y : Head). earliest (take y.count.0 (bare s))) (sym (head_is a ok hd e))
           ∙ sym ef)
 
-      pub none-pending : f ≡ NonePending → (x : Answer) → x ≡ plain_struct 3 → Unchanged a call r x
-      none-pending p x ex = stays a ok call r 3 (idle ∙ ap (λ (y : Earliest). launched_as h (launch_at t y)) p) x ex
+      pub none_pending : f ≡ NonePending → (x : Answer) → x ≡ plain_struct 3 → Unchanged a call r x
+      none_pending p x ex = stays a ok call r 3 (idle ∙ ap (λ (y : Earliest). launched_as h (launch_at t y)) p) x ex
 
       module _ {m : BufferNumber} {q : ℕ} (p : f ≡ Stored m q) (b : Buffer) (eb : b ≡ buffer_at hd.ports.0 m a) where
-        by-slot : (k : Slot) → b.slot ≡ k → step h call ≡ launched_as h (launched t m b.payload k)
-        by-slot k i =
+        by_slot : (k : Slot) → b.slot ≡ k → step h call ≡ launched_as h (launched t m b.payload k)
+        by_slot k i =
             idle
             ∙ ap (λ (y : Earliest). launched_as h (launch_at t y)) p
-            ∙ ap (λ (y : Buffer). launched_as h (launched t m y.payload y.slot)) (sym (buffer-is a ok hd e m b eb))
+            ∙ ap (λ (y : Buffer). launched_as h (launched t m y.payload y.slot)) (sym (buffer_is a ok hd e m b eb))
             ∙ ap (λ (y : Slot). launched_as h (launched t m b.payload y)) i
 
-        pub on-empty : b.slot ≡ Empty → (x : Answer) → x ≡ plain_struct 3 → Unchanged a call r x
-        on-empty i x ex = stays a ok call r 3 (by-slot Empty i) x ex
+        pub on_empty : b.slot ≡ Empty → (x : Answer) → x ≡ plain_struct 3 → Unchanged a call r x
+        on_empty i x ex = stays a ok call r 3 (by_slot Empty i) x ex
 
-        pub on-ready : {k : StartSplit} {d : DeviceResult} → b.slot ≡ Ready k d → (x : Answer) → x ≡ plain_struct 3 → Unchanged a call r x
-        on-ready i x ex = stays a ok call r 3 (by-slot _ i) x ex
+        pub on_ready : {k : StartSplit} {d : DeviceResult} → b.slot ≡ Ready k d → (x : Answer) → x ≡ plain_struct 3 → Unchanged a call r x
+        on_ready i x ex = stays a ok call r 3 (by_slot _ i) x ex
 
-        pub on-old : {k : StartSplit} {d : DeviceResult} → b.slot ≡ Old k d → (x : Answer) → x ≡ plain_struct 3 → Unchanged a call r x
-        on-old i x ex = stays a ok call r 3 (by-slot _ i) x ex
+        pub on_old : {k : StartSplit} {d : DeviceResult} → b.slot ≡ Old k d → (x : Answer) → x ≡ plain_struct 3 → Unchanged a call r x
+        on_old i x ex = stays a ok call r 3 (by_slot _ i) x ex
 
         pub launches : {k : StartSplit} {d : ℕ} → b.slot ≡ Pending k d → (x : Answer) (u v : List ℕ)
             → x ≡ struct_of (launch_answer k (content b.payload)) → u ≡ low_over (Running m) a → v ≡ written (content b.payload) r → Gives a call r x u v
         launches {k} {d} i x u v ex eu ev =
-            moves a ok call r _ (by-slot (Pending k d) i) x u v ex
-            (eu ∙ ap (low_over (Running m)) (form a ok) ∙ parts-exact.low-put h (Running m) (valid a ok)) ev
+            moves a ok call r _ (by_slot (Pending k d) i) x u v ex
+            (eu ∙ ap (low_over (Running m)) (form a ok) ∙ parts_exact_lem.low_put h (Running m) (valid a ok)) ev

@@ -30,10 +30,10 @@ use Rattle.area_check.specs.Read.{accepts}
 use Rattle.area.specs.Written.{written}
 use Rattle.area_parts.specs.declared.Head.{Head}
 use Rattle.area_parts.specs.Parts.{head_at, slots_at, store_over}
-use Rattle.area_parts.proofs.Exact.{parts-exact}
+use Rattle.area_parts.proofs.Exact.{parts_exact_lem}
 use Rattle.grimholdi.specs.declared.Answer.{Answer}
 use Rattle.grimholdi.specs.Outcome.{plain_struct}
-use Rattle.grimholdi.proofs.Taken.{hub_in, valid, form, head-is, configured-is, slots-are, early, ruled, all_held, Leaves, leaves, rests}
+use Rattle.grimholdi.proofs.Taken.{hub_in, valid, form, head_is, configured_is, slots_are, early, ruled, all_held, Leaves, leaves, rests}
 
 module _ (a : List ℕ) (ok : accepts a ≡ true) (hd : Head) (e : hd ≡ head_at a) (lane pid transfer lowspeed toggle address endpoint : ℕ) (l : List ℕ)
     (k : StartSplit) (ek : k ≡ split_from lane pid transfer lowspeed toggle address endpoint) {w : Bool}
@@ -48,13 +48,13 @@ module _ (a : List ℕ) (ok : accepts a ≡ true) (hd : Head) (e : hd ≡ head_a
   abbrev call : Call
   call = Start lane pid transfer lowspeed toggle address endpoint l
 
-  within-is : w ≡ within h call
+  within_is : w ≡ within h call
   unfolding within
-  within-is = ew ∙ ap (λ (x : StartSplit). split_named lane pid transfer lowspeed toggle address endpoint && start_fits x (length l)) ek
+  within_is = ew ∙ ap (λ (x : StartSplit). split_named lane pid transfer lowspeed toggle address endpoint && start_fits x (length l)) ek
 
-  pub start-refused : ¬ (n ≡ 0) → (x : Answer) → x ≡ plain_struct n → Leaves a call x a
+  pub start_refused : ¬ (n ≡ 0) → (x : Answer) → x ≡ plain_struct n → Leaves a call x a
   unfolding has_space not_silent
-  start-refused z x ex = rests a ok call n (early a ok call g within-is refl (configured-is a ok hd e) z) x ex
+  start_refused z x ex = rests a ok call n (early a ok call g within_is refl (configured_is a ok hd e) z) x ex
 
   module _ (z : n ≡ 0) (s : List Slot) (es : s ≡ slots_at hd.ports.0 a) (y : Key) (ey : y ≡ key_of k) {f : Choice}
       (ef : f ≡ permitted hd.count.0 y (take hd.count.0 (bare s))) where
@@ -63,38 +63,38 @@ module _ (a : List ℕ) (ok : accepts a ≡ true) (hd : Head) (e : hd ≡ head_a
         right (split_named lane pid transfer lowspeed toggle address endpoint) (start_fits k (length l))
         (sym ew ∙ all_held w true hd.configured (sym z ∙ g))
 
-    by-choice : (b : Choice) → f ≡ b → step h call ≡ started_as h (start_by t k l b)
+    by_choice : (b : Choice) → f ≡ b → step h call ≡ started_as h (start_by t k l b)
     unfolding has_space not_silent fitting served start_split
-    by-choice b i =
-        ruled a ok call g within-is refl (configured-is a ok hd e) z (λ p. absurd (true≢false p))
+    by_choice b i =
+        ruled a ok call g within_is refl (configured_is a ok hd e) z (λ p. absurd (true≢false p))
         ∙ ap (λ (x : StartSplit). started_as h (start_split t x l)) (sym ek)
         ∙ ap (λ (x : Bool). started_as h (cond x (start_by t k l (permitted t.count (key_of k) (take t.count t.buffers))) (record { next = t; answer = Outside }))) fits
         ∙ ap (λ (x : Choice). started_as h (start_by t k l x))
         (ap (λ (x : Key). permitted t.count x (take t.count t.buffers)) (sym ey)
         ∙ sym (permitted-bare t.count y t.count t.buffers)
-        ∙ ap (λ (x : List Slot). permitted t.count y (take t.count (bare x))) (sym (slots-are a ok hd e s es))
-        ∙ ap (λ (x : Head). permitted x.count.0 y (take x.count.0 (bare s))) (sym (head-is a ok hd e))
+        ∙ ap (λ (x : List Slot). permitted t.count y (take t.count (bare x))) (sym (slots_are a ok hd e s es))
+        ∙ ap (λ (x : Head). permitted x.count.0 y (take x.count.0 (bare s))) (sym (head_is a ok hd e))
         ∙ sym ef
         ∙ i)
 
     pub no_room : f ≡ NoRoom → (x : Answer) → x ≡ plain_struct 3 → Leaves a call x a
-    no_room i x ex = rests a ok call 3 (by-choice NoRoom i) x ex
+    no_room i x ex = rests a ok call 3 (by_choice NoRoom i) x ex
 
     pub limit : f ≡ LimitReached → (x : Answer) → x ≡ plain_struct 3 → Leaves a call x a
-    limit i x ex = rests a ok call 3 (by-choice LimitReached i) x ex
+    limit i x ex = rests a ok call 3 (by_choice LimitReached i) x ex
 
     pub held : {m : BufferNumber} → f ≡ Held m → (x : Answer) → x ≡ plain_struct 0 → Leaves a call x a
-    held i x ex = rests a ok call 0 (by-choice _ i) x ex
+    held i x ex = rests a ok call 0 (by_choice _ i) x ex
 
-    store-left : (m : BufferNumber) → store_over s hd.ports.0 m k l a ≡ written (with_translator h (stored t m k l))
-    store-left m =
-        ap (λ (x : List Slot). store_over x hd.ports.0 m k l a) (slots-are a ok hd e s es)
-        ∙ ap (λ (x : Head). store_over (slots_in t.buffers) x.ports.0 m k l a) (head-is a ok hd e)
+    store_left : (m : BufferNumber) → store_over s hd.ports.0 m k l a ≡ written (with_translator h (stored t m k l))
+    store_left m =
+        ap (λ (x : List Slot). store_over x hd.ports.0 m k l a) (slots_are a ok hd e s es)
+        ∙ ap (λ (x : Head). store_over (slots_in t.buffers) x.ports.0 m k l a) (head_is a ok hd e)
         ∙ ap (store_over (slots_in t.buffers) h.identity.ports m k l) (form a ok)
-        ∙ parts-exact.store-put h m k l (valid a ok)
+        ∙ parts_exact_lem.store_put h m k l (valid a ok)
 
     pub reused : {m : BufferNumber} → f ≡ Reused m → (x : Answer) (u : List ℕ) → x ≡ plain_struct 0 → u ≡ store_over s hd.ports.0 m k l a → Leaves a call x u
-    reused {m} i x u ex eu = leaves a ok call _ (by-choice (Reused m) i) x u ex (eu ∙ store-left m)
+    reused {m} i x u ex eu = leaves a ok call _ (by_choice (Reused m) i) x u ex (eu ∙ store_left m)
 
     pub took : {m : BufferNumber} → f ≡ Took m → (x : Answer) (u : List ℕ) → x ≡ plain_struct 0 → u ≡ store_over s hd.ports.0 m k l a → Leaves a call x u
-    took {m} i x u ex eu = leaves a ok call _ (by-choice (Took m) i) x u ex (eu ∙ store-left m)
+    took {m} i x u ex eu = leaves a ok call _ (by_choice (Took m) i) x u ex (eu ∙ store_left m)

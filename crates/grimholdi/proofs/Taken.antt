@@ -18,17 +18,17 @@ use Rattle.hub.specs.Call.{Call, Outcome, plain}
 use Rattle.hub.specs.Checks.{within, has_space, not_silent, fitting, first_refusal}
 use Rattle.hub.specs.Step.{served, step}
 use Rattle.hub.specs.Valid.{ValidHub}
-use Rattle.hub.proofs.Order.{refused-by, served-by}
+use Rattle.hub.proofs.Order.{refused_by, served_by_lem}
 use Rattle.area.specs.Written.{written}
 use Rattle.area_check.specs.Read.{accepts}
 use Rattle.area.specs.Read.{refusal, read_of}
 use Rattle.area_parts.specs.declared.Head.{Head}
 use Rattle.area_parts.specs.Parts.{head_at, buffer_at, slots_at}
-use Rattle.area_parts.proofs.Exact.{parts-exact}
+use Rattle.area_parts.proofs.Exact.{parts_exact_lem}
 use Rattle.grimholdi.specs.declared.Answer.{Answer}
 use Rattle.grimholdi.specs.Outcome.{plain_struct, EntryOutcome}
 use Rattle.grimholdi.specs.Entry.{struct_of, entry}
-use Rattle.grimholdi.proofs.Entries.{taken-hub, entry-taken, refuses, refuses-reply}
+use Rattle.grimholdi.proofs.Entries.{taken_hub, entry_taken, refuses, refuses_reply}
 
 pub none_written : (r : List ℕ) → payload.written [] r ≡ r
 unfolding payload.written
@@ -54,47 +54,47 @@ abbrev pub Unchanged : List ℕ → Call → List ℕ → Answer → Type 0
 Unchanged a c r x = Gives a c r x a r
 
 pub not_taken : (a : List ℕ) → accepts a ≡ false → (c : Call) (r : List ℕ) (x : Answer) → x ≡ plain_struct 6 → Unchanged a c r x
-not_taken a e c r x p = refuses-reply a (read_of a) refl (read-refused a e) c r x p
+not_taken a e c r x p = refuses_reply a (read_of a) refl (read-refused a e) c r x p
 
 -- no check refuses: the first of them held
 pub all_held : (w r s : Bool) → 0 ≡ first_refusal w r s true → w ≡ true
 all_held true r s p = refl
 all_held false r s p = let x : ⊥ = omega (arith, p) in absurd x
 
-pub turned-away : (a : List ℕ) → accepts a ≡ false → (c : Call) (x : Answer) → x ≡ plain_struct 6 → Leaves a c x a
-turned-away a e c x p = refuses a (read_of a) refl (read-refused a e) c [] x p
+pub turned_away : (a : List ℕ) → accepts a ≡ false → (c : Call) (x : Answer) → x ≡ plain_struct 6 → Leaves a c x a
+turned_away a e c x p = refuses a (read_of a) refl (read-refused a e) c [] x p
 
 module _ (a : List ℕ) (ok : accepts a ≡ true) where
   abbrev pub hub_in : Hub
   hub_in = (read_of a).hub
 
   pub valid : ValidHub hub_in
-  valid = (taken-hub a (read_of a) refl (read_taken a ok)).0
+  valid = (taken_hub a (read_of a) refl (read_taken a ok)).0
 
   pub form : a ≡ written hub_in
-  form = (taken-hub a (read_of a) refl (read_taken a ok)).1
+  form = (taken_hub a (read_of a) refl (read_taken a ok)).1
 
   -- ---- its parts
 
   module _ (hd : Head) (e : hd ≡ head_at a) where
-    pub head-is : hd ≡ record { ports = record { 0 = hub_in.identity.ports }; count = record { 0 = hub_in.translator.count }; configured = hub_in.configured; low = hub_in.translator.low }
-    head-is = e ∙ ap head_at form ∙ parts-exact.head-got hub_in valid
+    pub head_is : hd ≡ record { ports = record { 0 = hub_in.identity.ports }; count = record { 0 = hub_in.translator.count }; configured = hub_in.configured; low = hub_in.translator.low }
+    head_is = e ∙ ap head_at form ∙ parts_exact_lem.head_got hub_in valid
 
-    pub configured-is : hd.configured ≡ hub_in.configured
-    configured-is = ap (λ (x : Head). x.configured) head-is
+    pub configured_is : hd.configured ≡ hub_in.configured
+    configured_is = ap (λ (x : Head). x.configured) head_is
 
-    pub slots-are : (s : List Slot) → s ≡ slots_at hd.ports.0 a → s ≡ slots_in hub_in.translator.buffers
-    slots-are s f = f ∙ ap (λ (x : Head). slots_at x.ports.0 a) head-is ∙ ap (slots_at hub_in.identity.ports) form ∙ parts-exact.slots-got hub_in valid
+    pub slots_are : (s : List Slot) → s ≡ slots_at hd.ports.0 a → s ≡ slots_in hub_in.translator.buffers
+    slots_are s f = f ∙ ap (λ (x : Head). slots_at x.ports.0 a) head_is ∙ ap (slots_at hub_in.identity.ports) form ∙ parts_exact_lem.slots_got hub_in valid
 
-    pub buffer-is : (n : BufferNumber) (b : Buffer) → b ≡ buffer_at hd.ports.0 n a → b ≡ at hub_in.translator.buffers n.0
-    buffer-is n b f =
-        f ∙ ap (λ (x : Head). buffer_at x.ports.0 n a) head-is ∙ ap (buffer_at hub_in.identity.ports n) form ∙ parts-exact.buffer-got hub_in n valid
+    pub buffer_is : (n : BufferNumber) (b : Buffer) → b ≡ buffer_at hd.ports.0 n a → b ≡ at hub_in.translator.buffers n.0
+    buffer_is n b f =
+        f ∙ ap (λ (x : Head). buffer_at x.ports.0 n a) head_is ∙ ap (buffer_at hub_in.identity.ports n) form ∙ parts_exact_lem.buffer_got hub_in n valid
 
   -- ---- the order of checks
 
   module _ (c : Call) {n : ℕ} {w r s : Bool} (g : n ≡ first_refusal w r s true) (ew : w ≡ within hub_in c) (er : r ≡ has_space c) (es : s ≡ not_silent hub_in c) where
     pub early : ¬ (n ≡ 0) → step hub_in c ≡ plain hub_in n
-    early z = sym (refused-by hub_in c refl (any w r s (fitting hub_in c) g) ew er es refl z)
+    early z = sym (refused_by hub_in c refl (any w r s (fitting hub_in c) g) ew er es refl z)
       where
         any : (w r s f : Bool) → n ≡ first_refusal w r s true → n ≡ first_refusal w r s f
         any true true true f p = absurd (z p)
@@ -116,8 +116,8 @@ module _ (a : List ℕ) (ok : accepts a ≡ true) where
         eight p = omega (arith, p)
 
         go : (f : Bool) → f ≡ fitting hub_in c → step hub_in c ≡ served hub_in c
-        go true p = sym (served-by hub_in c g ew er es p z refl)
-        go false p = sym (refused-by hub_in c refl (last w r s (sym z ∙ g)) ew er es p eight) ∙ sym (unfit (sym p))
+        go true p = sym (served_by_lem hub_in c g ew er es p z refl)
+        go false p = sym (refused_by hub_in c refl (last w r s (sym z ∙ g)) ew er es p eight) ∙ sym (unfit (sym p))
 
   -- ---- what it gives and leaves
 
@@ -125,7 +125,7 @@ module _ (a : List ℕ) (ok : accepts a ≡ true) where
     pub moves : (o : Outcome) → step hub_in c ≡ o → (x : Answer) (u v : List ℕ) → x ≡ struct_of o.answer → u ≡ written o.next
         → v ≡ payload.written o.answer.bytes r → Gives a c r x u v
     moves o e x u v ex eu ev =
-        let q = entry-taken a (read_of a) refl (read_taken a ok) c r in (
+        let q = entry_taken a (read_of a) refl (read_taken a ok) c r in (
           ex ∙ ap (λ (y : Outcome). struct_of y.answer) (sym e) ∙ ap (λ (g : EntryOutcome). g.answer) (sym q),
           (
             eu ∙ ap (λ (y : Outcome). written y.next) (sym e) ∙ ap (λ (g : EntryOutcome). g.area) (sym q),

@@ -42,10 +42,10 @@ complete_out = complete_split 0 5 1 0 (sevens 64)
 
 pub record EntryCases : Type 0 where
   -- its complete-split answers 9 with ACK (2), and the buffer is old; then the same again
-  pub in-ack : gives (written ready_in_ack) complete_in
+  pub in_ack : gives (written ready_in_ack) complete_in
       ≡ record { answer = struct_of (pid_answer 9 2 []); area = written old_in_ack; reply = sevens 64 }
-  pub in-ack-again : gives (written old_in_ack) complete_in
+  pub in_ack_again : gives (written old_in_ack) complete_in
       ≡ record { answer = struct_of (pid_answer 9 2 []); area = written old_in_ack; reply = sevens 64 }
   -- its complete-split answers 1 with DATA0 (3) and the 3 bytes
-  pub out-data : gives (written old_out_data) complete_out
+  pub out_data : gives (written old_out_data) complete_out
       ≡ record { answer = struct_of (pid_answer 1 3 (1 ∷ 2 ∷ 3 ∷ [])); area = written old_out_data; reply = 1 ∷ 2 ∷ 3 ∷ sevens 61 }

@@ -15,15 +15,15 @@ use Rattle.grimholdi.specs.Refusals.{EntryRefusals}
 use Rattle.grimholdi.specs.Isolation.{EntryIsolation}
 
 pub record EntryClaims : Type 0 where
-  pub new-hubs : NewHubs new_entry
-  pub area-lengths : AreaLengths area_length
+  pub new_hubs : NewHubs new_entry
+  pub area_lengths : AreaLengths area_length
   pub refusals : EntryRefusals gives
-  pub demand-2 : Demand2 entries
-  pub area-follows : AreaFollows gives
-  pub demand-3 : Demand3 entries
-  pub launch-order : LaunchOrder entries
-  pub error-reports : ErrorReports entries
-  pub lane-share : LaneShare entries
+  pub demand_2 : Demand2 entries
+  pub area_follows : AreaFollows gives
+  pub demand_3 : Demand3 entries
+  pub launch_order : LaunchOrder entries
+  pub error_reports : ErrorReports entries
+  pub lane_share : LaneShare entries
   -- pending or ready now: of the hub that is read from the area
-  pub tally-holds : TallyHolds entries (λ a. active_buffers (read_of a).hub)
+  pub tally_holds : TallyHolds entries (λ a. active_buffers (read_of a).hub)
   pub isolation : EntryIsolation

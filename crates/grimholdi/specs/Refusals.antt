@@ -17,7 +17,7 @@ Unwritten a = (h : Hub) → ValidHub h → ¬ (a ≡ written h)
 -- of entries that give g
 pub record EntryRefusals (g : List ℕ → Asked → EntryOutcome) : Type 0 where
   -- an area that is the written form of no valid hub answers 6, and nothing changes
-  pub bad-area : (a : List ℕ) (x : Asked) → Unwritten a → g a x ≡ refused a (reply_of x)
+  pub bad_area : (a : List ℕ) (x : Asked) → Unwritten a → g a x ≡ refused a (reply_of x)
   -- on any other, a refusal's number is answered exactly if the refusal is due
   pub exactly : (r : Refusal) (h : Hub) (x : Asked) → ValidHub h → ((g (written h) x).answer.number ≡ number_of r) ↔ Due r h (call_of x)
   -- no other number is answered but 0, 1 and 9
@@ -32,7 +32,7 @@ pub record EntryRefusals (g : List ℕ → Asked → EntryOutcome) : Type 0 wher
   pub left : (h : Hub) (x : Asked) → ValidHub h → (g (written h) x).area ≡ written (step h (call_of x)).next
   -- n, the answer's length, is how many they are: 0 but for data
   pub counted : (a : List ℕ) (x : Asked) → length (seen (g a x)).bytes ≡ (g a x).answer.length
-  pub no-data : (a : List ℕ) (x : Asked) → ¬ ((g a x).answer.number ≡ 1) → (g a x).answer.length ≡ 0
+  pub no_data : (a : List ℕ) (x : Asked) → ¬ ((g a x).answer.number ≡ 1) → (g a x).answer.length ≡ 0
   -- the rest of the reply space is kept
   pub same_length : (a : List ℕ) (x : Asked) → length (g a x).reply ≡ length (reply_of x)
   pub behind : (a : List ℕ) (x : Asked) → drop (g a x).answer.length (g a x).reply ≡ drop (g a x).answer.length (reply_of x)

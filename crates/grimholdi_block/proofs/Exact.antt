@@ -15,59 +15,59 @@ use Rattle.call_bytes.specs.Table.{is_known}
 use Rattle.call_bytes.specs.Written.{written, Bytes}
 use Rattle.call_bytes.specs.Claims.{Takes}
 use Rattle.call_bytes.specs.Read.{read_of, call_in}
-use Rattle.call_bytes.proofs.Exact.{record-exact, half_lt}
+use Rattle.call_bytes.proofs.Exact.{record_exact_lem, half_lt}
 use Rattle.recording.specs.Written.{written_all, AllFit, count_of, padded, unchecked, check_of, block_of, Writable}
 use Rattle.recording.specs.declared.Verdict.TheVariants.{Good}
 use Rattle.recording.specs.Block.{length_fits, count_fits, records_fit, is_filled, calls_at, verdict_of, is_good}
-use Rattle.recording.proofs.Blocks.{not-zero, passed, made, front_length, made-length, made-count, made-zeros, made-last, made-sum, made-calls, Filled, filled}
+use Rattle.recording.proofs.Blocks.{not_zero, passed, made, front_length, made_length, made_count, made_zeros, made_last, made_sum, made_calls, Filled, filled}
 use Rattle.grimholdi_block.specs.Writing.{Wrote, wrote, placed, begun, start_entry, is_waiting, is_under_way, is_whole, longer, add_entry, numbered, sealed, finish_entry}
 use Rattle.grimholdi_block.specs.Writer.{under_way, add_all, IsRecord, UnderWay, Keeps, WriterExact}
 
 -- ---- bytes put between others
 
-placed-in : (n : ℕ) (a b p c : List ℕ) → length a ≡ n → length b ≡ length p → placed n p (a ++ (b ++ c)) ≡ a ++ (p ++ c)
-placed-in n a b p c e f =
+placed_in : (n : ℕ) (a b p c : List ℕ) → length a ≡ n → length b ≡ length p → placed n p (a ++ (b ++ c)) ≡ a ++ (p ++ c)
+placed_in n a b p c e f =
     ap₂ (λ (x y : List ℕ). x ++ (p ++ y)) (take_at a (b ++ c) n e)
     (ap (λ (m : ℕ). drop (m + length p) (a ++ (b ++ c))) (sym e) ∙ drop-append-add a (b ++ c) (length p) ∙ drop_at b c (length p) f)
 
 -- at the very end
 placed_end : (n : ℕ) (a b p : List ℕ) → length a ≡ n → length b ≡ length p → placed n p (a ++ b) ≡ a ++ p
 placed_end n a b p e f =
-    ap (λ (x : List ℕ). placed n p (a ++ x)) (sym (append-nil b)) ∙ placed-in n a b p [] e f ∙ ap (λ (x : List ℕ). a ++ x) (append-nil p)
+    ap (λ (x : List ℕ). placed n p (a ++ x)) (sym (append-nil b)) ∙ placed_in n a b p [] e f ∙ ap (λ (x : List ℕ). a ++ x) (append-nil p)
 
 -- ---- start
 
-begun-is : (p : ℕ) (l : List ℕ) → length l ≡ 512 → begun p l ≡ under_way p []
+begun_is : (p : ℕ) (l : List ℕ) → length l ≡ 512 → begun p l ≡ under_way p []
 unfolding under_way unchecked written_all
-begun-is p l long =
+begun_is p l long =
     ap (placed 510 (half p))
     (ap (placed 0 (replicate 510 0)) (sym (take-append-drop 510 l))
-    ∙ placed-in 0 [] (take 510 l) (replicate 510 0) (drop 510 l) refl (length-take-le 510 l (omega (arith, long))))
+    ∙ placed_in 0 [] (take 510 l) (replicate 510 0) (drop 510 l) refl (length-take-le 510 l (omega (arith, long))))
     ∙ placed_end 510 (replicate 510 0) (drop 510 l) (half p) (length-replicate {A = ℕ} 510 0) (omega (arith, length-drop 510 l, long))
 
 started : (p : ℕ) (l : List ℕ) → length l ≡ 512 → 1 ≤ p → p ≤ 65535 → start_entry l p ≡ wrote 0 (under_way p [])
 unfolding start_entry
 started p l long first last =
     let n : ¬ (p ≡ 0) = λ e. absurd (omega (arith, e, first)) in
-    rw (eq-eqb (length l) 512 long, ne_eqb p 0 n, le-leb p 65535 last) (ap (wrote 0) (begun-is p l long))
+    rw (eq-eqb (length l) 512 long, ne_eqb p 0 n, le-leb p 65535 last) (ap (wrote 0) (begun_is p l long))
 
-not-started : (p : ℕ) (l : List ℕ) → ¬ ((length l ≡ 512) × ((1 ≤ p) × (p ≤ 65535))) → start_entry l p ≡ wrote 6 l
+not_started : (p : ℕ) (l : List ℕ) → ¬ ((length l ≡ 512) × ((1 ≤ p) × (p ≤ 65535))) → start_entry l p ≡ wrote 6 l
 unfolding start_entry
-not-started p l n = go (eqb (length l) 512) refl (eqb p 0) refl (leb p 65535) refl
+not_started p l n = go (eqb (length l) 512) refl (eqb p 0) refl (leb p 65535) refl
   where
     go : (a : Bool) → eqb (length l) 512 ≡ a → (b : Bool) → eqb p 0 ≡ b → (d : Bool) → leb p 65535 ≡ d
         → cond (a && (not b && d)) (wrote 0 (begun p l)) (wrote 6 l) ≡ wrote 6 l
     go false x b y d z = refl
     go true x true y d z = refl
     go true x false y false z = refl
-    go true x false y true z = absurd (n (eqb-true (length l) 512 x, (not-zero p (ap not y), leb-true p 65535 z)))
+    go true x false y true z = absurd (n (eqb-true (length l) 512 x, (not_zero p (ap not y), leb-true p 65535 z)))
 
 -- ---- a record
 
-whole-record : (c : Call) (r : List ℕ) → IsRecord c r → is_whole r ≡ true
-whole-record c r i =
+whole_record : (c : Call) (r : List ℕ) → IsRecord c r → is_whole r ≡ true
+whole_record c r i =
     let t : Takes (written c) c (length (written c)) =
-    subst (λ (x : List ℕ). Takes x c (length (written c))) (append-nil (written c)) (record-exact.again c [] i.fits) in
+    subst (λ (x : List ℕ). Takes x c (length (written c))) (append-nil (written c)) (record_exact_lem.again c [] i.fits) in
     let k : Takes r c (length r) = subst (λ (x : List ℕ). Takes x c (length x)) (sym i.form) t in
     rw (k.known, eq-eqb (read_of r).length (length r) k.size)
 
@@ -75,7 +75,7 @@ record_of : (r : List ℕ) → Bytes r → is_whole r ≡ true → IsRecord (cal
 record_of r b e =
     let k = (and-eq-true_iff (is_known (read_of r).kind) (eqb (read_of r).length (length r))).0 e in
     let n : (read_of r).length ≡ length r = eqb-true (read_of r).length (length r) k.1 in
-    let s = (record-exact.exact r (call_in (read_of r) r) (read_of r).length b).0 (record { known = k.0; call = refl; size = refl }) in
+    let s = (record_exact_lem.exact r (call_in (read_of r) r) (read_of r).length b).0 (record { known = k.0; call = refl; size = refl }) in
     record { fits = s.fits; form = sym (take-length r) ∙ ap (λ (m : ℕ). take m r) (sym n) ∙ s.form }
 
 no_record : (l r : List ℕ) → Bytes r → ((c : Call) → ¬ (IsRecord c r)) → add_entry l r ≡ wrote 6 l
@@ -97,23 +97,23 @@ way_of l e =
     record {
       long = eqb-true (length l) 512 a.0;
       unnumbered = eqb-true (half_at l 0) 0 w.0;
-      waiting = not-zero (half_at l 510) w.1;
+      waiting = not_zero (half_at l 510) w.1;
       few = leb-true (count_of l) 506 b.1;
     }
 
-way-is : (l : List ℕ) → UnderWay l → is_under_way l ≡ true
-way-is l w =
+way_is : (l : List ℕ) → UnderWay l → is_under_way l ≡ true
+way_is l w =
     let n : ¬ (half_at l 510 ≡ 0) = λ e. absurd (omega (arith, e, w.waiting)) in
     rw (eq-eqb (length l) 512 w.long, eq-eqb (half_at l 0) 0 w.unnumbered, ne_eqb (half_at l 510) 0 n, le-leb (count_of l) 506 w.few)
 
 module _ (l : List ℕ) (c : Call) (r : List ℕ) (w : UnderWay l) (i : IsRecord c r) where
   fits : count_of l + length r ≤ 506 → (add_entry l r).answer ≡ 0
   unfolding add_entry
-  fits h = rw (way-is l w, whole-record c r i, le-leb (count_of l + length r) 506 h)
+  fits h = rw (way_is l w, whole_record c r i, le-leb (count_of l + length r) 506 h)
 
   full : 506 < count_of l + length r → add_entry l r ≡ wrote 3 l
   unfolding add_entry
-  full h = rw (way-is l w, whole-record c r i, lt-leb (count_of l + length r) 506 h)
+  full h = rw (way_is l w, whole_record c r i, lt-leb (count_of l + length r) 506 h)
 
 unfinished : (l : List ℕ) (p : ℕ) → UnderWay l → ¬ (verdict_of p l ≡ Good)
 unfinished l p w e =
@@ -134,56 +134,56 @@ module _ (p : ℕ) (cs : List Call) (w : Writable p cs) where
   u = written_all cs
 
   -- the block under way is one with number 0 and p in the last two bytes
-  way-made : under_way p cs ≡ made 0 u p w.room
+  way_made : under_way p cs ≡ made 0 u p w.room
   unfolding under_way
-  way-made = refl
+  way_made = refl
 
   waits : is_waiting (under_way p cs) ≡ true
   unfolding under_way unchecked
   waits =
-      let n : ¬ (half_at (under_way p cs) 510 ≡ 0) = λ e. absurd (omega (arith, e, made-last 0 u p w.room w.last, w.first)) in
+      let n : ¬ (half_at (under_way p cs) 510 ≡ 0) = λ e. absurd (omega (arith, e, made_last 0 u p w.room w.last, w.first)) in
       rw (ne_eqb (half_at (under_way p cs) 510) 0 n)
 
-  way-count : count_of (under_way p cs) ≡ length u
-  way-count = ap count_of way-made ∙ made-count 0 u p w.room
+  way_count : count_of (under_way p cs) ≡ length u
+  way_count = ap count_of way_made ∙ made_count 0 u p w.room
 
-  is-way : is_under_way (under_way p cs) ≡ true
-  is-way =
+  is_way : is_under_way (under_way p cs) ≡ true
+  is_way =
       rw (
-        eq-eqb (length (under_way p cs)) 512 (ap length way-made ∙ made-length 0 u p w.room),
+        eq-eqb (length (under_way p cs)) 512 (ap length way_made ∙ made_length 0 u p w.room),
         waits,
-        le-leb (count_of (under_way p cs)) 506 (omega (arith, way-count, w.room)),
+        le-leb (count_of (under_way p cs)) 506 (omega (arith, way_count, w.room)),
       )
 
   -- ---- finish
 
-  is-filled : is_filled (under_way p cs) ≡ true
+  is_filled_lem : is_filled (under_way p cs) ≡ true
   unfolding under_way
-  is-filled =
+  is_filled_lem =
       let l : List ℕ = under_way p cs in
       rw (
-        eq-eqb (length l) 512 (made-length 0 u p w.room),
-        le-leb (count_of l) 506 (omega (arith, way-count, w.room)),
-        made-zeros 0 u p w.room,
-        made-calls 0 u p w.room cs refl w.fit,
+        eq-eqb (length l) 512 (made_length 0 u p w.room),
+        le-leb (count_of l) 506 (omega (arith, way_count, w.room)),
+        made_zeros 0 u p w.room,
+        made_calls 0 u p w.room cs refl w.fit,
       )
 
   numbered_is : numbered (under_way p cs) ≡ made p u p w.room
   unfolding under_way unchecked
   numbered_is =
-      ap (λ (n : ℕ). placed 0 (half n) (under_way p cs)) (made-last 0 u p w.room w.last)
-      ∙ placed-in 0 [] (half 0) (half p) ((half (length u) ++ padded u) ++ half p) refl refl
+      ap (λ (n : ℕ). placed 0 (half n) (under_way p cs)) (made_last 0 u p w.room w.last)
+      ∙ placed_in 0 [] (half 0) (half p) ((half (length u) ++ padded u) ++ half p) refl refl
 
-  sealed-is : sealed (under_way p cs) ≡ block_of p cs
+  sealed_is : sealed (under_way p cs) ≡ block_of p cs
   unfolding block_of
-  sealed-is =
+  sealed_is =
       ap (λ (m : List ℕ). placed 510 (half (check_of m)) m) numbered_is
       ∙ placed_end 510 (unchecked p u) (half p) (half (check_of (made p u p w.room))) (front_length p u p w.room) refl
-      ∙ ap (λ (s : ℕ). unchecked p u ++ half ((65536 - s % 65536) % 65536)) (made-sum p u p w.room)
+      ∙ ap (λ (s : ℕ). unchecked p u ++ half ((65536 - s % 65536) % 65536)) (made_sum p u p w.room)
 
   finished : finish_entry (under_way p cs) ≡ wrote 0 (block_of p cs)
   unfolding finish_entry
-  finished = rw (waits, is-filled) (ap (wrote 0) sealed-is)
+  finished = rw (waits, is_filled_lem) (ap (wrote 0) sealed_is)
 
 -- ---- add
 
@@ -208,13 +208,13 @@ module _ (u r : List ℕ) (p : ℕ) (room : length u + length r ≤ 506) where
       ∙ sym (append_assoc (u ++ r) (replicate left 0) (half p))
       ∙ ap (λ (n : ℕ). ((u ++ r) ++ replicate (506 - n) 0) ++ half p) (sym (length-append u r))
 
-  longer-is : placed (4 + length u) r (placed 2 (half (length u + length r)) (unchecked 0 u ++ half p)) ≡ unchecked 0 (u ++ r) ++ half p
+  longer_is : placed (4 + length u) r (placed 2 (half (length u + length r)) (unchecked 0 u ++ half p)) ≡ unchecked 0 (u ++ r) ++ half p
   unfolding unchecked
-  longer-is =
+  longer_is =
       ap (placed (4 + length u) r)
-      (placed-in 2 (half 0) (half (length u)) (half (length u + length r)) (padded u ++ half p) refl refl
+      (placed_in 2 (half 0) (half (length u)) (half (length u + length r)) (padded u ++ half p) refl refl
       ∙ ap (λ (x : List ℕ). half 0 ++ (half (length u + length r) ++ x)) apart)
-      ∙ placed-in (4 + length u) (half 0 ++ (half (length u + length r) ++ u)) (replicate (length r) 0) r (replicate left 0 ++ half p)
+      ∙ placed_in (4 + length u) (half 0 ++ (half (length u + length r) ++ u)) (replicate (length r) 0) r (replicate left 0 ++ half p)
       (omega arith) (length-replicate {A = ℕ} (length r) 0)
       ∙ ap (λ (x : List ℕ). half 0 ++ (half (length u + length r) ++ x)) together
       ∙ ap (λ (n : ℕ). half 0 ++ (half n ++ (padded (u ++ r) ++ half p))) (sym (length-append u r))
@@ -224,38 +224,38 @@ unfolding written_all
 written-append [] ds = refl
 written-append (c ∷ cs) ds = ap (λ (x : List ℕ). written c ++ x) (written-append cs ds) ∙ sym (append_assoc (written c) (written_all cs) (written_all ds))
 
-written-more : (cs : List Call) (c : Call) → written_all (cs ++ (c ∷ [])) ≡ written_all cs ++ written c
+written_more : (cs : List Call) (c : Call) → written_all (cs ++ (c ∷ [])) ≡ written_all cs ++ written c
 unfolding written_all
-written-more cs c = written-append cs (c ∷ []) ∙ ap (λ (x : List ℕ). written_all cs ++ x) (append-nil (written c))
+written_more cs c = written-append cs (c ∷ []) ∙ ap (λ (x : List ℕ). written_all cs ++ x) (append-nil (written c))
 
 added : (p : ℕ) (cs : List Call) (c : Call) (r : List ℕ) → Writable p cs → IsRecord c r → length (written_all cs) + length r ≤ 506
     → add_entry (under_way p cs) r ≡ wrote 0 (under_way p (cs ++ (c ∷ [])))
 unfolding add_entry under_way
 added p cs c r w i h =
-    rw (is-way p cs w, whole-record c r i, le-leb (count_of (under_way p cs) + length r) 506 (omega (arith, way-count p cs w, h)))
+    rw (is_way p cs w, whole_record c r i, le-leb (count_of (under_way p cs) + length r) 506 (omega (arith, way_count p cs w, h)))
     (ap (wrote 0)
-    (ap (λ (n : ℕ). placed (4 + n) r (placed 2 (half (n + length r)) (under_way p cs))) (way-count p cs w)
-    ∙ longer-is (written_all cs) r p h
-    ∙ ap (λ (x : List ℕ). unchecked 0 x ++ half p) (ap (λ (x : List ℕ). written_all cs ++ x) i.form ∙ sym (written-more cs c))))
+    (ap (λ (n : ℕ). placed (4 + n) r (placed 2 (half (n + length r)) (under_way p cs))) (way_count p cs w)
+    ∙ longer_is (written_all cs) r p h
+    ∙ ap (λ (x : List ℕ). unchecked 0 x ++ half p) (ap (λ (x : List ℕ). written_all cs ++ x) i.form ∙ sym (written_more cs c))))
 
 -- ---- a block from start to finish
 
-fit-first : (cs ds : List Call) → AllFit (cs ++ ds) → AllFit cs
+fit_first : (cs ds : List Call) → AllFit (cs ++ ds) → AllFit cs
 unfolding AllFit
-fit-first [] ds f = tt
-fit-first (c ∷ cs) ds f = (f.0, fit-first cs ds f.1)
+fit_first [] ds f = tt
+fit_first (c ∷ cs) ds f = (f.0, fit_first cs ds f.1)
 
-fit-behind : (cs ds : List Call) → AllFit (cs ++ ds) → AllFit ds
+fit_behind : (cs ds : List Call) → AllFit (cs ++ ds) → AllFit ds
 unfolding AllFit
-fit-behind [] ds f = f
-fit-behind (c ∷ cs) ds f = fit-behind cs ds f.1
+fit_behind [] ds f = f
+fit_behind (c ∷ cs) ds f = fit_behind cs ds f.1
 
-all-added : (p : ℕ) (ds cs : List Call) → Writable p (ds ++ cs) → add_all (under_way p ds) cs ≡ under_way p (ds ++ cs)
+all_added : (p : ℕ) (ds cs : List Call) → Writable p (ds ++ cs) → add_all (under_way p ds) cs ≡ under_way p (ds ++ cs)
 unfolding add_all AllFit written_all
-all-added p ds [] w = ap (under_way p) (sym (append-nil ds))
-all-added p ds (c ∷ cs) w =
-    ap (λ (x : Wrote). add_all x.block cs) (added p ds c (written c) first (record { fits = (fit-behind ds (c ∷ cs) w.fit).0; form = refl }) room)
-    ∙ all-added p (ds ++ (c ∷ [])) cs (subst (Writable p) (sym (append_assoc ds (c ∷ []) cs)) w)
+all_added p ds [] w = ap (under_way p) (sym (append-nil ds))
+all_added p ds (c ∷ cs) w =
+    ap (λ (x : Wrote). add_all x.block cs) (added p ds c (written c) first (record { fits = (fit_behind ds (c ∷ cs) w.fit).0; form = refl }) room)
+    ∙ all_added p (ds ++ (c ∷ [])) cs (subst (Writable p) (sym (append_assoc ds (c ∷ []) cs)) w)
     ∙ ap (under_way p) (append_assoc ds (c ∷ []) cs)
   where
     long : length (written_all (ds ++ (c ∷ cs))) ≡ length (written_all ds) + (length (written c) + length (written_all cs))
@@ -265,7 +265,7 @@ all-added p ds (c ∷ cs) w =
         ∙ ap (λ (n : ℕ). length (written_all ds) + n) (length-append (written c) (written_all cs))
 
     first : Writable p ds
-    first = record { first = w.first; last = w.last; fit = fit-first ds (c ∷ cs) w.fit; room = omega (arith, long, w.room) }
+    first = record { first = w.first; last = w.last; fit = fit_first ds (c ∷ cs) w.fit; room = omega (arith, long, w.room) }
 
     room : length (written_all ds) + length (written c) ≤ 506
     room = omega (arith, long, w.room)
@@ -273,14 +273,14 @@ all-added p ds (c ∷ cs) w =
 whole : (p : ℕ) (cs : List Call) (l : List ℕ) → length l ≡ 512 → Writable p cs → finish_entry (add_all (start_entry l p).block cs) ≡ wrote 0 (block_of p cs)
 whole p cs l long w =
     ap (λ (x : Wrote). finish_entry (add_all x.block cs)) (started p l long w.first w.last)
-    ∙ ap finish_entry (all-added p [] cs w)
+    ∙ ap finish_entry (all_added p [] cs w)
     ∙ finished p cs w
 
 -- ---- nothing else is finished
 
-not-finished : (l : List ℕ) → Bytes l → ((p : ℕ) (cs : List Call) → Writable p cs → ¬ (l ≡ under_way p cs)) → finish_entry l ≡ wrote 6 l
+not_finished : (l : List ℕ) → Bytes l → ((p : ℕ) (cs : List Call) → Writable p cs → ¬ (l ≡ under_way p cs)) → finish_entry l ≡ wrote 6 l
 unfolding finish_entry under_way
-not-finished l b none = go (is_waiting l) refl (is_filled l) refl
+not_finished l b none = go (is_waiting l) refl (is_filled l) refl
   where
     go : (x : Bool) → is_waiting l ≡ x → (y : Bool) → is_filled l ≡ y → cond (x && y) (wrote 0 (sealed l)) (wrote 6 l) ≡ wrote 6 l
     go false e y f = refl
@@ -293,7 +293,7 @@ not-finished l b none = go (is_waiting l) refl (is_filled l) refl
         let q : Filled l = filled l b (eqb-true (length l) 512 a.0) (leb-true (count_of l) 506 k.0) k.1 d.1 in
         absurd
         (none (half_at l 510) (calls_at l)
-        (record { first = not-zero (half_at l 510) w.1; last = omega (arith, half_lt l 510 b); fit = q.fit; room = q.room })
+        (record { first = not_zero (half_at l 510) w.1; last = omega (arith, half_lt l 510 b); fit = q.fit; room = q.room })
         (q.all
         ∙ ap (λ (x : List ℕ). x ++ half (half_at l 510)) (q.front ∙ ap (λ (n : ℕ). unchecked n (written_all (calls_at l))) (eqb-true (half_at l 0) 0 w.0))))
 
@@ -303,27 +303,27 @@ keeps : (l x : List ℕ) (n : ℕ) (b : Bool) → Keeps l (cond b (wrote 0 x) (w
 keeps l x n true other = absurd (other refl)
 keeps l x n false other = refl
 
-start-keeps : (l : List ℕ) (p : ℕ) → Keeps l (start_entry l p)
+start_keeps : (l : List ℕ) (p : ℕ) → Keeps l (start_entry l p)
 unfolding start_entry
-start-keeps l p = keeps l (begun p l) 6 (length_fits l && (not (eqb p 0) && leb p 65535))
+start_keeps l p = keeps l (begun p l) 6 (length_fits l && (not (eqb p 0) && leb p 65535))
 
-add-keeps : (l r : List ℕ) → Keeps l (add_entry l r)
+add_keeps : (l r : List ℕ) → Keeps l (add_entry l r)
 unfolding add_entry
-add-keeps l r = go (is_under_way l && is_whole r)
+add_keeps l r = go (is_under_way l && is_whole r)
   where
     go : (b : Bool) → Keeps l (cond b (cond (leb (count_of l + length r) 506) (wrote 0 (longer l r)) (wrote 3 l)) (wrote 6 l))
     go true = keeps l (longer l r) 3 (leb (count_of l + length r) 506)
     go false = λ other. refl
 
-finish-keeps : (l : List ℕ) → Keeps l (finish_entry l)
+finish_keeps : (l : List ℕ) → Keeps l (finish_entry l)
 unfolding finish_entry
-finish-keeps l = keeps l (sealed l) 6 (is_waiting l && is_filled l)
+finish_keeps l = keeps l (sealed l) 6 (is_waiting l && is_filled l)
 
-pub writer-exact : WriterExact
-writer-exact =
+pub writer_exact_lem : WriterExact
+writer_exact_lem =
     record {
       started = started;
-      not-started = not-started;
+      not_started = not_started;
       added = added;
       fits = fits;
       full = full;
@@ -331,9 +331,9 @@ writer-exact =
       nowhere = nowhere;
       no_record = no_record;
       finished = finished;
-      not-finished = not-finished;
+      not_finished = not_finished;
       whole = whole;
-      start-keeps = start-keeps;
-      add-keeps = add-keeps;
-      finish-keeps = finish-keeps;
+      start_keeps = start_keeps;
+      add_keeps = add_keeps;
+      finish_keeps = finish_keeps;
     }

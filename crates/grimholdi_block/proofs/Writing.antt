@@ -46,41 +46,41 @@ put_is n p l x h e =
 -- ---- start
 
 module _ (l : List ℕ) (p : ℕ) where
-  pub start-length : ¬ (length l ≡ 512) → Gives (start_entry l p) 6 l
+  pub start_length_lem : ¬ (length l ≡ 512) → Gives (start_entry l p) 6 l
   unfolding start_entry
-  start-length n = (rw (ne_eqb (length l) 512 n), rw (ne_eqb (length l) 512 n))
+  start_length_lem n = (rw (ne_eqb (length l) 512 n), rw (ne_eqb (length l) 512 n))
 
   module _ (long : length l ≡ 512) where
-    pub start-zero : p ≡ 0 → Gives (start_entry l p) 6 l
+    pub start_zero : p ≡ 0 → Gives (start_entry l p) 6 l
     unfolding start_entry
-    start-zero e = (rw (eq-eqb (length l) 512 long, e), rw (eq-eqb (length l) 512 long, e))
+    start_zero e = (rw (eq-eqb (length l) 512 long, e), rw (eq-eqb (length l) 512 long, e))
 
     module _ (first : ¬ (p ≡ 0)) where
-      pub start-large : 65535 < p → Gives (start_entry l p) 6 l
+      pub start_large : 65535 < p → Gives (start_entry l p) 6 l
       unfolding start_entry
-      start-large h =
+      start_large h =
           (rw (eq-eqb (length l) 512 long, ne_eqb p 0 first, lt-leb p 65535 h), rw (eq-eqb (length l) 512 long, ne_eqb p 0 first, lt-leb p 65535 h))
 
-      pub start-done : p ≤ 65535 → (x : List ℕ) → x ≡ begun p l → Gives (start_entry l p) 0 x
+      pub start_done : p ≤ 65535 → (x : List ℕ) → x ≡ begun p l → Gives (start_entry l p) 0 x
       unfolding start_entry
-      start-done h x e =
+      start_done h x e =
           (rw (eq-eqb (length l) 512 long, ne_eqb p 0 first, le-leb p 65535 h), rw (eq-eqb (length l) 512 long, ne_eqb p 0 first, le-leb p 65535 h) e)
 
 -- ---- under way
 
-pub way-length : (l : List ℕ) → ¬ (length l ≡ 512) → false ≡ is_under_way l
-way-length l n = rw (ne_eqb (length l) 512 n)
+pub way_length : (l : List ℕ) → ¬ (length l ≡ 512) → false ≡ is_under_way l
+way_length l n = rw (ne_eqb (length l) 512 n)
 
 module _ (l : List ℕ) (long : length l ≡ 512) (b : Bool) (e : b ≡ is_waiting l) where
-  pub way-finished : b ≡ false → false ≡ is_under_way l
-  way-finished f = rw (eq-eqb (length l) 512 long, ← e, f)
+  pub way_finished : b ≡ false → false ≡ is_under_way l
+  way_finished f = rw (eq-eqb (length l) 512 long, ← e, f)
 
-  pub way-count : b ≡ true → (n : ℕ) → n ≡ count_of l → leb n 506 ≡ is_under_way l
-  way-count t n c = rw (eq-eqb (length l) 512 long, ← e, t, ← c)
+  pub way_count : b ≡ true → (n : ℕ) → n ≡ count_of l → leb n 506 ≡ is_under_way l
+  way_count t n c = rw (eq-eqb (length l) 512 long, ← e, t, ← c)
 
 -- 512 bytes, and a count that fits
-pub way-facts : (l : List ℕ) (b : Bool) → b ≡ is_under_way l → b ≡ true → (length l ≡ 512) × (count_of l ≤ 506)
-way-facts l b e t =
+pub way_facts : (l : List ℕ) (b : Bool) → b ≡ is_under_way l → b ≡ true → (length l ≡ 512) × (count_of l ≤ 506)
+way_facts l b e t =
     let x = (and-eq-true_iff (length_fits l) (is_waiting l && leb (count_of l) 506)).0 (sym e ∙ t) in
     let y = (and-eq-true_iff (is_waiting l) (leb (count_of l) 506)).0 x.1 in
     (eqb-true (length l) 512 x.0, leb-true (count_of l) 506 y.1)
@@ -91,9 +91,9 @@ whole_is l r k b e f g = g ∙ ap (λ (x : Bool). x && eqb r.length (length l)) 
 -- ---- add
 
 module _ (l r : List ℕ) (b : Bool) (e : b ≡ is_under_way l) where
-  pub add-nowhere : b ≡ false → Gives (add_entry l r) 6 l
+  pub add_nowhere : b ≡ false → Gives (add_entry l r) 6 l
   unfolding add_entry
-  add-nowhere f = (rw (← e, f), rw (← e, f))
+  add_nowhere f = (rw (← e, f), rw (← e, f))
 
   module _ (t : b ≡ true) (d : Bool) (w : d ≡ is_whole r) where
     pub add_none : d ≡ false → Gives (add_entry l r) 6 l
@@ -102,11 +102,11 @@ module _ (l r : List ℕ) (b : Bool) (e : b ≡ is_under_way l) where
 
     module _ (u : d ≡ true) (n : ℕ) (c : n ≡ count_of l) where
       few : n ≤ 506
-      few = omega (arith, c, (way-facts l b e t).1)
+      few = omega (arith, c, (way_facts l b e t).1)
 
-      pub add-full : 506 - n < length r → Gives (add_entry l r) 3 l
+      pub add_full : 506 - n < length r → Gives (add_entry l r) 3 l
       unfolding add_entry
-      add-full h =
+      add_full h =
           let f : leb (n + length r) 506 ≡ false = lt-leb (n + length r) 506 (omega (arith, few, h)) in
           (rw (← e, t, ← w, u, ← c, f), rw (← e, t, ← w, u, ← c, f))
 
@@ -119,27 +119,27 @@ module _ (l r : List ℕ) (b : Bool) (e : b ≡ is_under_way l) where
 -- ---- finish
 
 module _ (l : List ℕ) (b : Bool) (e : b ≡ is_waiting l) where
-  pub finish-nothing : b ≡ false → Gives (finish_entry l) 6 l
+  pub finish_nothing : b ≡ false → Gives (finish_entry l) 6 l
   unfolding finish_entry
-  finish-nothing f = (rw (← e, f), rw (← e, f))
+  finish_nothing f = (rw (← e, f), rw (← e, f))
 
   module _ (t : b ≡ true) (d : Bool) (w : d ≡ is_filled l) where
-    pub finish-bad : d ≡ false → Gives (finish_entry l) 6 l
+    pub finish_bad : d ≡ false → Gives (finish_entry l) 6 l
     unfolding finish_entry
-    finish-bad f = (rw (← e, t, ← w, f), rw (← e, t, ← w, f))
+    finish_bad f = (rw (← e, t, ← w, f), rw (← e, t, ← w, f))
 
-    pub finish-done : d ≡ true → (x : List ℕ) → x ≡ sealed l → Gives (finish_entry l) 0 x
+    pub finish_done : d ≡ true → (x : List ℕ) → x ≡ sealed l → Gives (finish_entry l) 0 x
     unfolding finish_entry
-    finish-done u x s = (rw (← e, t, ← w, u), rw (← e, t, ← w, u) s)
+    finish_done u x s = (rw (← e, t, ← w, u), rw (← e, t, ← w, u) s)
 
-pub filled-long : (l : List ℕ) (d : Bool) → d ≡ is_filled l → d ≡ true → length l ≡ 512
-filled-long l d e t = eqb-true (length l) 512 ((and-eq-true_iff (length_fits l) (count_fits l && records_fit l)).0 (sym e ∙ t)).0
+pub filled_long : (l : List ℕ) (d : Bool) → d ≡ is_filled l → d ≡ true → length l ≡ 512
+filled_long l d e t = eqb-true (length l) 512 ((and-eq-true_iff (length_fits l) (count_fits l && records_fit l)).0 (sym e ∙ t)).0
 
 -- the number found, what it leaves, the sum found, and what that leaves
-pub seal-is : (l m x : List ℕ) (n s : ℕ) → n ≡ half_at l 510 → m ≡ placed 0 (half n) l → s ≡ sum_to m 255
+pub seal_is : (l m x : List ℕ) (n s : ℕ) → n ≡ half_at l 510 → m ≡ placed 0 (half n) l → s ≡ sum_to m 255
     → x ≡ placed 510 (half ((65536 - s % 65536) % 65536)) m → x ≡ sealed l
-seal-is l m x n s e f g h =
+seal_is l m x n s e f g h =
     h ∙ ap (λ (v : ℕ). placed 510 (half ((65536 - v % 65536) % 65536)) m) g ∙ ap (λ (y : List ℕ). placed 510 (half ((65536 - sum_to y 255 % 65536) % 65536)) y) (f ∙ ap (λ (v : ℕ). placed 0 (half v) l) e)
 
-pub longer-is : (l r m x : List ℕ) (n : ℕ) → n ≡ count_of l → m ≡ placed 2 (half (n + length r)) l → x ≡ placed (4 + n) r m → x ≡ longer l r
-longer-is l r m x n e f g = g ∙ ap (placed (4 + n) r) f ∙ ap (λ (v : ℕ). placed (4 + v) r (placed 2 (half (v + length r)) l)) e
+pub longer_is : (l r m x : List ℕ) (n : ℕ) → n ≡ count_of l → m ≡ placed 2 (half (n + length r)) l → x ≡ placed (4 + n) r m → x ≡ longer l r
+longer_is l r m x n e f g = g ∙ ap (placed (4 + n) r) f ∙ ap (λ (v : ℕ). placed (4 + v) r (placed 2 (half (v + length r)) l)) e

@@ -36,7 +36,7 @@ Keeps l w = ¬ (w.answer ≡ 0) → w.block ≡ l
 pub record WriterExact : Type 0 where
   -- started: memory of 512 bytes and a number from 1 to 65,535; else 6
   pub started : (p : ℕ) (l : List ℕ) → length l ≡ 512 → 1 ≤ p → p ≤ 65535 → start_entry l p ≡ wrote 0 (under_way p [])
-  pub not-started : (p : ℕ) (l : List ℕ) → ¬ ((length l ≡ 512) × ((1 ≤ p) × (p ≤ 65535))) → start_entry l p ≡ wrote 6 l
+  pub not_started : (p : ℕ) (l : List ℕ) → ¬ ((length l ≡ 512) × ((1 ≤ p) × (p ≤ 65535))) → start_entry l p ≡ wrote 6 l
   -- a record is added if it fits behind the others; else 3
   pub added : (p : ℕ) (cs : List Call) (c : Call) (r : List ℕ) → Writable p cs → IsRecord c r → length (written_all cs) + length r ≤ 506
       → add_entry (under_way p cs) r ≡ wrote 0 (under_way p (cs ++ (c ∷ [])))
@@ -50,13 +50,13 @@ pub record WriterExact : Type 0 where
   -- a block under way is finished as the written form of its calls
   pub finished : (p : ℕ) (cs : List Call) → Writable p cs → finish_entry (under_way p cs) ≡ wrote 0 (block_of p cs)
   -- and nothing else is finished, whatever the memory holds
-  pub not-finished : (l : List ℕ) → Bytes l → ((p : ℕ) (cs : List Call) → Writable p cs → ¬ (l ≡ under_way p cs)) → finish_entry l ≡ wrote 6 l
+  pub not_finished : (l : List ℕ) → Bytes l → ((p : ℕ) (cs : List Call) → Writable p cs → ¬ (l ≡ under_way p cs)) → finish_entry l ≡ wrote 6 l
   -- a block that was never finished is good at no place
   pub unfinished : (l : List ℕ) (p : ℕ) → UnderWay l → ¬ (verdict_of p l ≡ Good)
   -- started, calls added in order and finished, memory of 512 bytes is the written form of those calls
   pub whole : (p : ℕ) (cs : List Call) (l : List ℕ) → length l ≡ 512 → Writable p cs
       → finish_entry (add_all (start_entry l p).block cs) ≡ wrote 0 (block_of p cs)
   -- answers other than 0 change nothing
-  pub start-keeps : (l : List ℕ) (p : ℕ) → Keeps l (start_entry l p)
-  pub add-keeps : (l r : List ℕ) → Keeps l (add_entry l r)
-  pub finish-keeps : (l : List ℕ) → Keeps l (finish_entry l)
+  pub start_keeps : (l : List ℕ) (p : ℕ) → Keeps l (start_entry l p)
+  pub add_keeps : (l r : List ℕ) → Keeps l (add_entry l r)
+  pub finish_keeps : (l : List ℕ) → Keeps l (finish_entry l)

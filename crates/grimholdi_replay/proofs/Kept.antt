@@ -12,10 +12,10 @@ use Rattle.hub.specs.declared.Identity.{Identity}
 use Rattle.hub.specs.Call.{Call, Answer}
 use Rattle.hub.specs.Step.{step}
 use Rattle.hub.specs.Valid.{ValidHub}
-use Rattle.hub.proofs.Claimed.{hub-claims}
+use Rattle.hub.proofs.Claimed.{hub_claims_lem}
 use Rattle.runs.specs.Machine.{rules, run_from, after_from}
 use Rattle.area.specs.Written.{written, area_length, written_over}
-use Rattle.area.proofs.Exact.{area-exact}
+use Rattle.area.proofs.Exact.{area_exact_lem}
 use Rattle.call_bytes.specs.Table.{is_known}
 use Rattle.call_bytes.specs.Read.{read_of, call_in}
 use Rattle.recording.specs.Calls.{cons_to, calls_in, listed}
@@ -37,16 +37,16 @@ after_kept : (cs : List Call) (h : Hub) → ValidHub h → Kept h (after_from ru
 unfolding after_from
 after_kept [] h v = record { valid = v; identity = refl; buffers = refl }
 after_kept (c ∷ cs) h v =
-    let k = after_kept cs (step h c).next (hub-claims.step-valid h v c) in
+    let k = after_kept cs (step h c).next (hub_claims_lem.step_valid h v c) in
     record {
       valid = k.valid;
-      identity = k.identity ∙ hub-claims.identity-kept h c;
-      buffers = k.buffers ∙ hub-claims.buffers-kept h c;
+      identity = k.identity ∙ hub_claims_lem.identity_kept h c;
+      buffers = k.buffers ∙ hub_claims_lem.buffers_kept h c;
     }
 
-pub played-kept : (h : Hub) (p : ℕ) (b : List ℕ) → ValidHub h → Kept h (block_played h p b).state
+pub played_kept : (h : Hub) (p : ℕ) (b : List ℕ) → ValidHub h → Kept h (block_played h p b).state
 unfolding block_played
-played-kept h p b v = go (is_good (verdict_of p b)) refl
+played_kept h p b v = go (is_good (verdict_of p b)) refl
   where
     go : (x : Bool) → is_good (verdict_of p b) ≡ x → Kept h (block_played h p b).state
     go true e = rw e (after_kept (calls_at b) h v)
@@ -55,33 +55,33 @@ played-kept h p b v = go (is_good (verdict_of p b)) refl
 -- it has the same length, so that writing it gives its written form
 pub written_over_lem : {h g : Hub} {a : List ℕ} → ValidHub h → a ≡ written h → Kept h g → written_over g a ≡ written g
 written_over_lem {h} {g} {a} v e k =
-    area-exact.writes g a k.valid
-    (ap length e ∙ area-exact.written-length h v ∙ ap₂ area_length (ap (λ (i : Identity). i.ports) (sym k.identity)) (sym k.buffers))
+    area_exact_lem.writes g a k.valid
+    (ap length e ∙ area_exact_lem.written_length h v ∙ ap₂ area_length (ap (λ (i : Identity). i.ports) (sym k.identity)) (sym k.buffers))
 
 -- ---- its answers
 
-answers-short : (cs : List Call) (h : Hub) → ValidHub h → length (answers_in (run_from rules h cs)) ≤ 74 * length cs
+answers_short : (cs : List Call) (h : Hub) → ValidHub h → length (answers_in (run_from rules h cs)) ≤ 74 * length cs
 unfolding answers_in answer_bytes run_from
-answers-short [] h v = omega arith
-answers-short (c ∷ cs) h v =
+answers_short [] h v = omega arith
+answers_short (c ∷ cs) h v =
     let a : Answer = (step h c).answer in
     let rest = answers_in (run_from rules (step h c).next cs) in
     omega (
       arith,
       length-append (answer_bytes a) rest,
       length-append (head_bytes a) a.bytes,
-      hub-claims.bytes_fit h v c,
-      answers-short cs (step h c).next (hub-claims.step-valid h v c),
+      hub_claims_lem.bytes_fit h v c,
+      answers_short cs (step h c).next (hub_claims_lem.step_valid h v c),
     )
 
 -- at most as many calls as bytes
-calls-few : (n : ℕ) (l : List ℕ) → length (listed (calls_in n l)) ≤ n
+calls_few : (n : ℕ) (l : List ℕ) → length (listed (calls_in n l)) ≤ n
 unfolding calls_in
-calls-few zero [] = omega arith
-calls-few zero (x ∷ l) = omega arith
-calls-few (suc n) [] = omega arith
-calls-few (suc n) (x ∷ l) =
-    go (is_known (read_of (x ∷ l)).kind) (calls_in n (drop (read_of (x ∷ l)).length (x ∷ l))) (calls-few n (drop (read_of (x ∷ l)).length (x ∷ l)))
+calls_few zero [] = omega arith
+calls_few zero (x ∷ l) = omega arith
+calls_few (suc n) [] = omega arith
+calls_few (suc n) (x ∷ l) =
+    go (is_known (read_of (x ∷ l)).kind) (calls_in n (drop (read_of (x ∷ l)).length (x ∷ l))) (calls_few n (drop (read_of (x ∷ l)).length (x ∷ l)))
   where
     go : (k : Bool) (o : Option (List Call)) → length (listed o) ≤ n
         → length (listed (cond k (cons_to (call_in (read_of (x ∷ l)) (x ∷ l)) o) none)) ≤ suc n
@@ -89,13 +89,13 @@ calls-few (suc n) (x ∷ l) =
     go true none h = omega arith
     go true (some cs) h = omega (arith, h)
 
-pub played-short : (h : Hub) (p : ℕ) (b : List ℕ) → ValidHub h → length (block_played h p b).output ≤ 37444
+pub played_short : (h : Hub) (p : ℕ) (b : List ℕ) → ValidHub h → length (block_played h p b).output ≤ 37444
 unfolding block_played
-played-short h p b v = go (is_good (verdict_of p b)) refl
+played_short h p b v = go (is_good (verdict_of p b)) refl
   where
     go : (x : Bool) → is_good (verdict_of p b) ≡ x → length (block_played h p b).output ≤ 37444
     go true e =
         let t : Passed p b = passed p b e in
         let used : length (used_of b) ≡ count_of b = length-take-le (count_of b) (drop 4 b) (omega (arith, length-drop 4 b, t.long, t.few)) in
-        rw e (omega (arith, answers-short (calls_at b) h v, calls-few (length (used_of b)) (used_of b), used, t.few))
+        rw e (omega (arith, answers_short (calls_at b) h v, calls_few (length (used_of b)) (used_of b), used, t.few))
     go false e = rw e (omega arith)

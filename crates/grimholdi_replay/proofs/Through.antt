@@ -14,31 +14,31 @@ use Rattle.runs.specs.Tally.{active_buffers}
 use Rattle.area.specs.Written.{written}
 use Rattle.area.specs.declared.Read.{Read}
 use Rattle.area.specs.Read.{read_of}
-use Rattle.area.proofs.Exact.{area-exact}
+use Rattle.area.proofs.Exact.{area_exact_lem}
 use Rattle.recording.specs.declared.Verdict.{Verdict}
 use Rattle.recording.specs.declared.Verdict.TheVariants.{Good, BadLength, BadCheck, BadNumber, BadCount, BadRecord}
 use Rattle.call_bytes.specs.Written.{Bytes}
 use Rattle.recording.specs.Block.{verdict_of, is_good, calls_at}
 use Rattle.recording.specs.Written.{IsBlock}
 use Rattle.recording.specs.Refusals.{Told}
-use Rattle.recording.proofs.Blocks.{block-exact}
-use Rattle.recording.proofs.Refusals.{block-refusals}
+use Rattle.recording.proofs.Blocks.{block_exact_lem}
+use Rattle.recording.proofs.Refusals.{block_refusals_lem}
 use Rattle.replay.specs.Answers.{answers_in, answers_length, is_enough}
 use Rattle.replay.specs.Replay.{Recording, Stop, Replayed, Played, and_then, replay_from, seen_as, ReplayExact, played_calls, played_none, block_played, by_value, blocks_of, AllWritable, joined}
-use Rattle.replay.proofs.Replays.{sums, replay-claims}
+use Rattle.replay.proofs.Replays.{sums, replay_claims_lem}
 use Rattle.grimholdi.specs.Asked.{Asked, call_of}
 use Rattle.grimholdi.specs.Runs.{NewArea}
-use Rattle.grimholdi.proofs.Carried.{new-hub, filled_is}
-use Rattle.grimholdi.proofs.Claimed.{entry-claims}
+use Rattle.grimholdi.proofs.Carried.{new_hub_lem, filled_is}
+use Rattle.grimholdi.proofs.Claimed.{entry_claims_lem}
 use Rattle.grimholdi_replay.specs.Entry.{refusal_number, ReplayOutcome, refused, carried_out, block_entry}
 use Rattle.grimholdi_replay.specs.Replays.{verdict_numbered, through_entry, Large, SessionReplays, EntryReplays}
-use Rattle.grimholdi_replay.proofs.Kept.{played-kept}
+use Rattle.grimholdi_replay.proofs.Kept.{played_kept}
 
 -- ---- one block
 
-bad-area : (a : List ℕ) (p : ℕ) (b o : List ℕ) → (read_of a).ok ≡ false → block_entry a p b o ≡ refused 6 a o
+bad_area : (a : List ℕ) (p : ℕ) (b o : List ℕ) → (read_of a).ok ≡ false → block_entry a p b o ≡ refused 6 a o
 unfolding block_entry
-bad-area a p b o e = rw e
+bad_area a p b o e = rw e
 
 -- no byte behind the answers is written
 behind : (a : List ℕ) (p : ℕ) (b o : List ℕ)
@@ -55,22 +55,22 @@ behind a p b o = go (read_of a).ok refl (is_enough (length o)) refl
     go true e false f = rw (e, f)
     go true e true f = rw (e, f) (drop-append_seam l (drop (length l) o))
 
-number-back : (v : Verdict) → verdict_numbered (refusal_number v) ≡ v
-number-back Good = refl
-number-back BadLength = refl
-number-back BadCheck = refl
-number-back BadNumber = refl
-number-back BadCount = refl
-number-back BadRecord = refl
+number_back : (v : Verdict) → verdict_numbered (refusal_number v) ≡ v
+number_back Good = refl
+number_back BadLength = refl
+number_back BadCheck = refl
+number_back BadNumber = refl
+number_back BadCount = refl
+number_back BadRecord = refl
 
-played-good : (h : Hub) (p : ℕ) (b : List ℕ) → verdict_of p b ≡ Good → block_played h p b ≡ played_calls h (calls_at b)
+played_good : (h : Hub) (p : ℕ) (b : List ℕ) → verdict_of p b ≡ Good → block_played h p b ≡ played_calls h (calls_at b)
 unfolding block_played
-played-good h p b e = rw e
+played_good h p b e = rw e
 
 -- a block that isn't good leaves all as it was
-played-none : (h : Hub) (p : ℕ) (b : List ℕ) → ¬ (verdict_of p b ≡ Good) → block_played h p b ≡ played_none h (verdict_of p b)
+played_none_lem : (h : Hub) (p : ℕ) (b : List ℕ) → ¬ (verdict_of p b ≡ Good) → block_played h p b ≡ played_none h (verdict_of p b)
 unfolding block_played
-played-none h p b n = go (verdict_of p b) refl
+played_none_lem h p b n = go (verdict_of p b) refl
   where
     go : (v : Verdict) → verdict_of p b ≡ v → block_played h p b ≡ played_none h (verdict_of p b)
     go Good e = absurd (n e)
@@ -83,26 +83,26 @@ played-none h p b n = go (verdict_of p b) refl
 module _ (h : Hub) (v : ValidHub h) (p : ℕ) (b o : List ℕ) where
   replayed : answers_length ≤ length o → block_entry (written h) p b o ≡ carried_out (block_played h p b) o
   unfolding block_entry
-  replayed room = rw (area-exact.again h v, le-leb answers_length (length o) room)
+  replayed room = rw (area_exact_lem.again h v, le-leb answers_length (length o) room)
 
-  no-space : length o < answers_length → block_entry (written h) p b o ≡ refused 7 (written h) o
+  no_space : length o < answers_length → block_entry (written h) p b o ≡ refused 7 (written h) o
   unfolding block_entry
-  no-space small = rw (area-exact.again h v, lt-leb answers_length (length o) small)
+  no_space small = rw (area_exact_lem.again h v, lt-leb answers_length (length o) small)
 
-  good-block : (cs : List Call) → answers_length ≤ length o → Bytes b → IsBlock p cs b → block_entry (written h) p b o ≡ carried_out (played_calls h cs) o
-  good-block cs room y i =
-      let g = (block-exact.exact p b cs y).1 i in
-      replayed room ∙ ap (λ (x : Played Hub). carried_out x o) (played-good h p b g.0 ∙ ap (played_calls h) g.1)
+  good_block : (cs : List Call) → answers_length ≤ length o → Bytes b → IsBlock p cs b → block_entry (written h) p b o ≡ carried_out (played_calls h cs) o
+  good_block cs room y i =
+      let g = (block_exact_lem.exact p b cs y).1 i in
+      replayed room ∙ ap (λ (x : Played Hub). carried_out x o) (played_good h p b g.0 ∙ ap (played_calls h) g.1)
 
-  bad-block : (w : Verdict) → answers_length ≤ length o → Bytes b → ¬ (w ≡ Good) → Told w p b → block_entry (written h) p b o ≡ carried_out (played_none h w) o
-  bad-block w room y n t =
-      let e : verdict_of p b ≡ w = (block-refusals w p b y).1 t in
-      replayed room ∙ ap (λ (x : Played Hub). carried_out x o) (played-none h p b (λ g. n (sym e ∙ g)) ∙ ap (played_none h) e)
+  bad_block : (w : Verdict) → answers_length ≤ length o → Bytes b → ¬ (w ≡ Good) → Told w p b → block_entry (written h) p b o ≡ carried_out (played_none h w) o
+  bad_block w room y n t =
+      let e : verdict_of p b ≡ w = (block_refusals_lem w p b y).1 t in
+      replayed room ∙ ap (λ (x : Played Hub). carried_out x o) (played_none_lem h p b (λ g. n (sym e ∙ g)) ∙ ap (played_none h) e)
 
   active : answers_length ≤ length o → (block_entry (written h) p b o).answer.active ≡ active_buffers (read_of (block_entry (written h) p b o).area).hub
   active room =
       ap (λ (g : ReplayOutcome). g.answer.active) (replayed room)
-      ∙ ap (λ (r : Read). active_buffers r.hub) (sym (area-exact.again (block_played h p b).state (played-kept h p b v).valid))
+      ∙ ap (λ (r : Read). active_buffers r.hub) (sym (area_exact_lem.again (block_played h p b).state (played_kept h p b v).valid))
       ∙ ap (λ (g : ReplayOutcome). active_buffers (read_of g.area).hub) (sym (replayed room))
 
 -- ---- block after block
@@ -126,19 +126,19 @@ module _ (memory : ℕ → List ℕ) (large : Large memory) where
         output = take-append_seam (block_played h p b).output (drop (length (block_played h p b).output) (memory p)) i;
         state = written (block_played h p b).state;
         tally = (block_played h p b).tally;
-        verdict = number-back (block_played h p b).verdict i;
+        verdict = number_back (block_played h p b).verdict i;
       })
 
   abbrev entry : List ℕ → ℕ → Recording → Replayed (List ℕ)
   entry a p bs = replay_from (through_entry memory) a p bs
 
   read_back : (h : Hub) → ValidHub h → (read_of (written h)).hub ≡ h
-  read_back h v = ap (λ (r : Read). r.hub) (area-exact.again h v)
+  read_back h v = ap (λ (r : Read). r.hub) (area_exact_lem.again h v)
 
   -- a block, then what is behind it
-  then-seen : (p : ℕ) (x : Played Hub) → ValidHub x.state → (r : Replayed (List ℕ)) (s : Replayed Hub) → seen_as (through_entry memory) r ≡ s
+  then_seen : (p : ℕ) (x : Played Hub) → ValidHub x.state → (r : Replayed (List ℕ)) (s : Replayed Hub) → seen_as (through_entry memory) r ≡ s
       → seen_as (through_entry memory) (and_then p (as_area x) r) ≡ and_then p x s
-  then-seen p x v r s e = go (is_good x.verdict) refl
+  then_seen p x v r s e = go (is_good x.verdict) refl
     where
       go : (y : Bool) → is_good x.verdict ≡ y → seen_as (through_entry memory) (and_then p (as_area x) r) ≡ and_then p x s
       go true q = rw q (ap (λ (t : Replayed Hub). and_then p (record { output = x.output; state = x.state; tally = x.tally; verdict = Good }) t) e)
@@ -153,9 +153,9 @@ module _ (memory : ℕ → List ℕ) (large : Large memory) where
       ap (λ (g : Hub). record { output = []; state = g; tally = (entry (written h) p []).tally; stop = (entry (written h) p []).stop }) (read_back h v)
   follows (b ∷ bs) h p v =
       let x = block_played h p b in
-      let k = (played-kept h p b v).valid in
+      let k = (played_kept h p b v).valid in
       ap (λ (a : Played (List ℕ)). seen_as (through_entry memory) (and_then p a (entry a.state (p + 1) bs))) (through h v p b)
-      ∙ then-seen p x k (entry (written x.state) (p + 1) bs) (replay_from by_value x.state (p + 1) bs) (follows bs x.state (p + 1) k)
+      ∙ then_seen p x k (entry (written x.state) (p + 1) bs) (replay_from by_value x.state (p + 1) bs) (follows bs x.state (p + 1) k)
 
   -- the area is the written form of the hub by value
   areas : (bs : Recording) (h : Hub) (p : ℕ) → ValidHub h → (entry (written h) p bs).state ≡ written (replay_from by_value h p bs).state
@@ -163,7 +163,7 @@ module _ (memory : ℕ → List ℕ) (large : Large memory) where
   areas [] h p v = refl
   areas (b ∷ bs) h p v =
       ap (λ (a : Played (List ℕ)). (and_then p a (entry a.state (p + 1) bs)).state) (through h v p b)
-      ∙ go (is_good (block_played h p b).verdict) refl (areas bs (block_played h p b).state (p + 1) (played-kept h p b v).valid)
+      ∙ go (is_good (block_played h p b).verdict) refl (areas bs (block_played h p b).state (p + 1) (played_kept h p b v).valid)
     where
       go : (y : Bool) → is_good (block_played h p b).verdict ≡ y
           → (entry (written (block_played h p b).state) (p + 1) bs).state ≡ written (replay_from by_value (block_played h p b).state (p + 1) bs).state
@@ -175,8 +175,8 @@ module _ (memory : ℕ → List ℕ) (large : Large memory) where
   exact : ReplayExact (through_entry memory)
   exact m bs =
       ap (λ (a : List ℕ). seen_as (through_entry memory) (entry a 1 bs)) (filled_is m)
-      ∙ follows bs (new_hub_of m.numbers) 1 (new-hub m)
-      ∙ replay-claims.exact m.numbers bs
+      ∙ follows bs (new_hub_of m.numbers) 1 (new_hub_lem m)
+      ∙ replay_claims_lem.exact m.numbers bs
 
 -- ---- a session that was recorded
 
@@ -184,32 +184,32 @@ session : (memory : ℕ → List ℕ) → Large memory → (m : NewArea) (xs : L
     → joined css ≡ map call_of xs → SessionReplays memory m xs css
 session memory large m xs css w e =
     let all = exact memory large m (blocks_of 1 css) in
-    let again = replay-claims.recorded css w in
+    let again = replay_claims_lem.recorded css w in
     let n = m.numbers in
     record {
       output =
           ap (λ (r : Replayed Hub). r.output) all
           ∙ ap (λ (cs : List Call). answers_in (run rules n cs)) (again.calls ∙ e)
-          ∙ ap answers_in (sym (entry-claims.demand-2 m xs));
+          ∙ ap answers_in (sym (entry_claims_lem.demand_2 m xs));
       area =
           ap (λ (a : List ℕ). (replay_from (through_entry memory) a 1 (blocks_of 1 css)).state) (filled_is m)
-          ∙ areas memory large (blocks_of 1 css) (new_hub_of n) 1 (new-hub m)
-          ∙ ap (λ (r : Replayed Hub). written r.state) (replay-claims.exact n (blocks_of 1 css))
+          ∙ areas memory large (blocks_of 1 css) (new_hub_of n) 1 (new_hub_lem m)
+          ∙ ap (λ (r : Replayed Hub). written r.state) (replay_claims_lem.exact n (blocks_of 1 css))
           ∙ ap (λ (cs : List Call). written (after_from rules (new_hub_of n) cs)) (again.calls ∙ e)
-          ∙ sym (entry-claims.area-follows m xs);
+          ∙ sym (entry_claims_lem.area_follows m xs);
       good = ap (λ (r : Replayed Hub). r.stop.verdict) all ∙ ap (λ (t : Stop). t.verdict) again.good;
     }
 
-pub entry-replays : EntryReplays
-entry-replays =
+pub entry_replays_lem : EntryReplays
+entry_replays_lem =
     record {
-      bad-area = λ a p b o n. bad-area a p b o ((area-exact.refused a).1 n);
-      no-space = λ h p b o v. no-space h v p b o;
-      good-block = λ h p b o cs v. good-block h v p b o cs;
-      bad-block = λ h p b o w v. bad-block h v p b o w;
+      bad_area = λ a p b o n. bad_area a p b o ((area_exact_lem.refused a).1 n);
+      no_space = λ h p b o v. no_space h v p b o;
+      good_block = λ h p b o cs v. good_block h v p b o cs;
+      bad_block = λ h p b o w v. bad_block h v p b o w;
       behind = behind;
       active = λ h p b o v. active h v p b o;
       exact = exact;
-      adds-up = λ memory large. sums (through_entry memory) (exact memory large);
+      adds_up = λ memory large. sums (through_entry memory) (exact memory large);
       session = session;
     }

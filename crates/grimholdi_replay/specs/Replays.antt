@@ -59,15 +59,15 @@ pub record SessionReplays (memory : ℕ → List ℕ) (m : NewArea) (xs : List A
 
 pub record EntryReplays : Type 0 where
   -- an area that is the written form of no valid hub answers 6, and nothing changes
-  pub bad-area : (a : List ℕ) (p : ℕ) (b o : List ℕ) → Unwritten a → block_entry a p b o ≡ refused 6 a o
+  pub bad_area : (a : List ℕ) (p : ℕ) (b o : List ℕ) → Unwritten a → block_entry a p b o ≡ refused 6 a o
   -- on any other, too little space answers 7, and nothing changes
-  pub no-space : (h : Hub) (p : ℕ) (b o : List ℕ) → ValidHub h → length o < answers_length
+  pub no_space : (h : Hub) (p : ℕ) (b o : List ℕ) → ValidHub h → length o < answers_length
       → block_entry (written h) p b o ≡ refused 7 (written h) o
   -- else a block that is the written form of calls at its place answers 0, and they are made, ..
-  pub good-block : (h : Hub) (p : ℕ) (b o : List ℕ) (cs : List Call) → ValidHub h → answers_length ≤ length o → Bytes b → IsBlock p cs b
+  pub good_block : (h : Hub) (p : ℕ) (b o : List ℕ) (cs : List Call) → ValidHub h → answers_length ≤ length o → Bytes b → IsBlock p cs b
       → block_entry (written h) p b o ≡ carried_out (played_calls h cs) o
   -- .. and any other is refused with the verdict that is to be told, and nothing changes
-  pub bad-block : (h : Hub) (p : ℕ) (b o : List ℕ) (v : Verdict) → ValidHub h → answers_length ≤ length o → Bytes b → ¬ (v ≡ Good) → Told v p b
+  pub bad_block : (h : Hub) (p : ℕ) (b o : List ℕ) (v : Verdict) → ValidHub h → answers_length ≤ length o → Bytes b → ¬ (v ≡ Good) → Told v p b
       → block_entry (written h) p b o ≡ carried_out (played_none h v) o
   -- no byte behind the answers is written
   pub behind : (a : List ℕ) (p : ℕ) (b o : List ℕ)
@@ -77,7 +77,7 @@ pub record EntryReplays : Type 0 where
       → (block_entry (written h) p b o).answer.active ≡ active_buffers (read_of (block_entry (written h) p b o).area).hub
   -- block after block from a new area is the replay of the recording, whatever memory the answers get
   pub exact : (memory : ℕ → List ℕ) → Large memory → ReplayExact (through_entry memory)
-  pub adds-up : (memory : ℕ → List ℕ) → Large memory → ReplayAddsUp (through_entry memory)
+  pub adds_up : (memory : ℕ → List ℕ) → Large memory → ReplayAddsUp (through_entry memory)
   -- a session that was recorded, in whatever blocks, is replayed
   pub session : (memory : ℕ → List ℕ) → Large memory → (m : NewArea) (xs : List Asked) (css : List (List Call)) → AllWritable 1 css
       → joined css ≡ map call_of xs → SessionReplays memory m xs css

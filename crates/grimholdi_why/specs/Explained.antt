@@ -32,7 +32,7 @@ explained_entries = record { machine = entries; why = explains; left = λ a x. a
 
 pub record EntryReasons : Type 0 where
   -- an area that is the written form of no valid hub: 6
-  pub bad-area : (a : List ℕ) (c : Call) → Unwritten a → entry_reason a c ≡ Number 6
+  pub bad_area : (a : List ℕ) (c : Call) → Unwritten a → entry_reason a c ≡ Number 6
   -- on any other, the reason is true of that hub and call, ..
   pub true_of : (h : Hub) (c : Call) → ValidHub h → TrueOf (entry_reason (written h) c) h c
   -- .. what it is enough for is what the call's own entry answers, bytes included, ..
@@ -44,5 +44,5 @@ pub record EntryReasons : Type 0 where
   pub stored : (h : Hub) (z p t f g a e : ℕ) (l : List ℕ) → ValidHub h
       → (let x = start_split z p t f g a e l in
       Leaves (explains (written h) x) (split_from z p t f g a e) l h (read_of (gives (written h) x).area).hub)
-  pub demand-2 : Demand2WithReasons explained_entries
-  pub demand-3 : Demand3WithReasons explained_entries
+  pub demand_2 : Demand2WithReasons explained_entries
+  pub demand_3 : Demand3WithReasons explained_entries

@@ -34,7 +34,7 @@ use Rattle.translator.specs.Order.{earliest}
 use Rattle.translator.specs.CompleteSplit.{completed, complete_at, complete_split}
 use Rattle.translator.specs.Launch.{launched, launch_at, launch_by, launch}
 use Rattle.translator.specs.Valid.{ValidTranslator}
-use Rattle.translator.proofs.Kept.{slot-le}
+use Rattle.translator.proofs.Kept.{slot_le}
 use Rattle.request.specs.declared.Request.{Request}
 use Rattle.request.specs.declared.Request.TheVariants.{Wrong, SetConfiguration, GetConfiguration, GetHubDescriptor, GetHubStatus, GetPortStatus, ClearHubFeature, ClearPortFeature, SetPortFeature, ClearTTBuffer, ResetTT}
 use Rattle.request.specs.Request.{request_of}
@@ -47,7 +47,7 @@ use Rattle.hub.specs.Requests.{descriptor, by_request, served_always, requested}
 use Rattle.hub.specs.Rules.{polled, completed_as, launched_by, launched_as}
 use Rattle.hub.specs.Step.{served, step}
 use Rattle.hub.specs.Valid.{ValidHub}
-use Rattle.hub.proofs.Order.{by-step}
+use Rattle.hub.proofs.Order.{by_step}
 
 -- ---- answers other than data have no bytes
 
@@ -55,30 +55,30 @@ abbrev OnlyData : Outcome → Type 0
 OnlyData o = eqb o.answer.number 1 ≡ false → o.answer.bytes ≡ []
 
 module _ (h : Hub) where
-  request-only : (y : Lane) (r : Request) → OnlyData (by_request h y r)
-  request-only y (Wrong f) e = refl
-  request-only y (SetConfiguration on) e = refl
-  request-only y GetConfiguration e = absurd (true≢false e)
-  request-only y (GetHubDescriptor n) e = absurd (true≢false e)
-  request-only y GetHubStatus e = absurd (true≢false e)
-  request-only y (GetPortStatus n) e = absurd (true≢false e)
-  request-only y ClearHubFeature e = refl
-  request-only y (ClearPortFeature n f) e = refl
-  request-only y (SetPortFeature n f) e = refl
-  request-only y (ClearTTBuffer k) e = refl
-  request-only y ResetTT e = refl
+  request_only : (y : Lane) (r : Request) → OnlyData (by_request h y r)
+  request_only y (Wrong f) e = refl
+  request_only y (SetConfiguration on) e = refl
+  request_only y GetConfiguration e = absurd (true≢false e)
+  request_only y (GetHubDescriptor n) e = absurd (true≢false e)
+  request_only y GetHubStatus e = absurd (true≢false e)
+  request_only y (GetPortStatus n) e = absurd (true≢false e)
+  request_only y ClearHubFeature e = refl
+  request_only y (ClearPortFeature n f) e = refl
+  request_only y (SetPortFeature n f) e = refl
+  request_only y (ClearTTBuffer k) e = refl
+  request_only y ResetTT e = refl
 
-  requested-only : (y : Lane) (r : Request) → OnlyData (requested h y r)
+  requested_only : (y : Lane) (r : Request) → OnlyData (requested h y r)
   unfolding requested
-  requested-only y r =
+  requested_only y r =
       elim (h.configured || served_always r) as (λ b. OnlyData (cond b (by_request h y r) (refuse 2 h))) [
-        | true ↦ request-only y r
+        | true ↦ request_only y r
         | false ↦ λ e. refl
       ]
 
-  polled-only : OnlyData (polled h)
+  polled_only : OnlyData (polled h)
   unfolding polled
-  polled-only =
+  polled_only =
       let b = bitmap_of h.identity.ports h.ports in
       elim (eqb b 0) as (λ x. OnlyData (cond x (refuse 3 h) (gives h (b ∷ [])))) [
         | true ↦ λ e. refl
@@ -90,9 +90,9 @@ module _ (h : Hub) where
   handshake p true e = absurd (true≢false e)
   handshake p false e = refl
 
-  completed-only : (t : Translator) (k : Key) → OnlyData (completed_as h (complete_split t k))
+  completed_only : (t : Translator) (k : Key) → OnlyData (completed_as h (complete_split t k))
   unfolding complete_split
-  completed-only t k = go (find (holds k) (take t.count t.buffers))
+  completed_only t k = go (find (holds k) (take t.count t.buffers))
     where
       slot : (n : BufferNumber) (p : Payload) (s : Slot) → OnlyData (completed_as h (completed t n p s))
       slot n p Empty e = refl
@@ -104,86 +104,86 @@ module _ (h : Hub) where
       go Nowhere = λ e. refl
       go (At n) = slot n (at t.buffers n.0).payload (at t.buffers n.0).slot
 
-  launched-only : (g : Hub) (a : LaunchAnswer) (p : Payload) → OnlyData (launched_by g a p)
-  launched-only g NothingPending p e = refl
-  launched-only g Occupied p e = refl
-  launched-only g (Launches s) p e = absurd (true≢false e)
+  launched_only : (g : Hub) (a : LaunchAnswer) (p : Payload) → OnlyData (launched_by g a p)
+  launched_only g NothingPending p e = refl
+  launched_only g Occupied p e = refl
+  launched_only g (Launches s) p e = absurd (true≢false e)
 
-  served-only : (c : Call) → OnlyData (served h c)
+  served_only : (c : Call) → OnlyData (served h c)
   unfolding served
-  served-only (Control z s room) = requested-only (lane_from z) (request_of h.identity.ports s)
-  served-only (Poll z room) = polled-only
-  served-only (Start z p t l g a e b) = λ z. refl
-  served-only (Complete z a e d room) = completed-only h.translator (key_from z a e d)
-  served-only (Launch room) = let o = launch h.translator in launched-only (with_translator h o.next) o.answer o.payload
-  served-only (Deliver r b) = λ z. refl
-  served-only (Event e n) = λ z. refl
-  served-only Tick = λ z. refl
-  served-only BusReset = λ z. refl
+  served_only (Control z s room) = requested_only (lane_from z) (request_of h.identity.ports s)
+  served_only (Poll z room) = polled_only
+  served_only (Start z p t l g a e b) = λ z. refl
+  served_only (Complete z a e d room) = completed_only h.translator (key_from z a e d)
+  served_only (Launch room) = let o = launch h.translator in launched_only (with_translator h o.next) o.answer o.payload
+  served_only (Deliver r b) = λ z. refl
+  served_only (Event e n) = λ z. refl
+  served_only Tick = λ z. refl
+  served_only BusReset = λ z. refl
 
-  pub bytes-of-data : (c : Call) → ¬ ((step h c).answer.number ≡ 1) → (step h c).answer.bytes ≡ []
-  bytes-of-data c d = by-step h c OnlyData (λ n e. refl) (λ w f. served-only c) (ne_eqb (step h c).answer.number 1 d)
+  pub bytes_of_data : (c : Call) → ¬ ((step h c).answer.number ≡ 1) → (step h c).answer.bytes ≡ []
+  bytes_of_data c d = by_step h c OnlyData (λ n e. refl) (λ w f. served_only c) (ne_eqb (step h c).answer.number 1 d)
 
 -- ---- and they fit
 
 abbrev Fit : Outcome → Type 0
 Fit o = length o.answer.bytes ≤ 64
 
-buffer-fits : (b : Buffer) → Whole b → length (content b.payload) ≤ 64
-buffer-fits b w = let l : b.payload.len ≤ 64 = slot-le b.slot b.payload.len w.fits in simp length-take (omega arith)
+buffer_fits_lem : (b : Buffer) → Whole b → length (content b.payload) ≤ 64
+buffer_fits_lem b w = let l : b.payload.len ≤ 64 = slot_le b.slot b.payload.len w.fits in simp length-take (omega arith)
 
 module _ (h : Hub) (v : ValidHub h) where
-  request-fits : (y : Lane) (r : Request) → Fit (by_request h y r)
-  request-fits y (Wrong f) = omega arith
-  request-fits y (SetConfiguration on) = omega arith
-  request-fits y GetConfiguration = omega arith
-  request-fits y (GetHubDescriptor n) = let d = descriptor h.identity in simp length-take (omega arith)
-  request-fits y GetHubStatus = omega arith
-  request-fits y (GetPortStatus n) = omega arith
-  request-fits y ClearHubFeature = omega arith
-  request-fits y (ClearPortFeature n f) = omega arith
-  request-fits y (SetPortFeature n f) = omega arith
-  request-fits y (ClearTTBuffer k) = omega arith
-  request-fits y ResetTT = omega arith
+  request_fits : (y : Lane) (r : Request) → Fit (by_request h y r)
+  request_fits y (Wrong f) = omega arith
+  request_fits y (SetConfiguration on) = omega arith
+  request_fits y GetConfiguration = omega arith
+  request_fits y (GetHubDescriptor n) = let d = descriptor h.identity in simp length-take (omega arith)
+  request_fits y GetHubStatus = omega arith
+  request_fits y (GetPortStatus n) = omega arith
+  request_fits y ClearHubFeature = omega arith
+  request_fits y (ClearPortFeature n f) = omega arith
+  request_fits y (SetPortFeature n f) = omega arith
+  request_fits y (ClearTTBuffer k) = omega arith
+  request_fits y ResetTT = omega arith
 
-  requested-fits : (y : Lane) (r : Request) → Fit (requested h y r)
+  requested_fits : (y : Lane) (r : Request) → Fit (requested h y r)
   unfolding requested
-  requested-fits y r =
+  requested_fits y r =
       elim (h.configured || served_always r) as (λ b. Fit (cond b (by_request h y r) (refuse 2 h))) [
-        | true ↦ request-fits y r
+        | true ↦ request_fits y r
         | false ↦ omega arith
       ]
 
-  polled-fits : Fit (polled h)
+  polled_fits : Fit (polled h)
   unfolding polled
-  polled-fits =
+  polled_fits =
       let b = bitmap_of h.identity.ports h.ports in
       elim (eqb b 0) as (λ x. Fit (cond x (refuse 3 h) (gives h (b ∷ [])))) [
         | true ↦ omega arith
         | false ↦ omega arith
       ]
 
-  given-fits : (p : Payload) → length (content p) ≤ 64 → (b : Bool) → length (content (cond b p no_payload)) ≤ 64
-  given-fits p l true = l
-  given-fits p l false = omega arith
+  given_fits : (p : Payload) → length (content p) ≤ 64 → (b : Bool) → length (content (cond b p no_payload)) ≤ 64
+  given_fits p l true = l
+  given_fits p l false = omega arith
 
-  completed-fits : (t : Translator) → ValidTranslator t → (k : Key) → Fit (completed_as h (complete_split t k))
+  completed_fits : (t : Translator) → ValidTranslator t → (k : Key) → Fit (completed_as h (complete_split t k))
   unfolding complete_split
-  completed-fits t w k = go (find (holds k) (take t.count t.buffers))
+  completed_fits t w k = go (find (holds k) (take t.count t.buffers))
     where
       slot : (n : BufferNumber) (p : Payload) → length (content p) ≤ 64 → (s : Slot) → Fit (completed_as h (completed t n p s))
       slot n p l Empty = omega arith
       slot n p l (Pending s q) = omega arith
-      slot n p l (Ready s r) = given-fits p l (is_data r)
-      slot n p l (Old s r) = given-fits p l (is_data r)
+      slot n p l (Ready s r) = given_fits p l (is_data r)
+      slot n p l (Old s r) = given_fits p l (is_data r)
 
       go : (f : Found) → Fit (completed_as h (complete_at t f))
       go Nowhere = omega arith
-      go (At n) = slot n (at t.buffers n.0).payload (buffer-fits (at t.buffers n.0) (w.whole n.0)) (at t.buffers n.0).slot
+      go (At n) = slot n (at t.buffers n.0).payload (buffer_fits_lem (at t.buffers n.0) (w.whole n.0)) (at t.buffers n.0).slot
 
-  launched-fits : (t : Translator) → ValidTranslator t → Fit (launched_as h (launch t))
+  launched_fits : (t : Translator) → ValidTranslator t → Fit (launched_as h (launch t))
   unfolding launch
-  launched-fits t w = go t.low
+  launched_fits t w = go t.low
     where
       slot : (n : BufferNumber) (p : Payload) → length (content p) ≤ 64 → (s : Slot) → Fit (launched_as h (launched t n p s))
       slot n p l Empty = omega arith
@@ -193,24 +193,24 @@ module _ (h : Hub) (v : ValidHub h) where
 
       found : (e : Earliest) → Fit (launched_as h (launch_at t e))
       found NonePending = omega arith
-      found (Stored n q) = slot n (at t.buffers n.0).payload (buffer-fits (at t.buffers n.0) (w.whole n.0)) (at t.buffers n.0).slot
+      found (Stored n q) = slot n (at t.buffers n.0).payload (buffer_fits_lem (at t.buffers n.0) (w.whole n.0)) (at t.buffers n.0).slot
 
       go : (l : LowSide) → Fit (launched_as h (launch_by t l))
       go Idle = found (earliest (take t.count t.buffers))
       go (Running n) = omega arith
       go Abandoned = omega arith
 
-  served-fits : (c : Call) → Fit (served h c)
+  served_fits : (c : Call) → Fit (served h c)
   unfolding served
-  served-fits (Control z s room) = requested-fits (lane_from z) (request_of h.identity.ports s)
-  served-fits (Poll z room) = polled-fits
-  served-fits (Start z p t l g a e b) = omega arith
-  served-fits (Complete z a e d room) = completed-fits h.translator v.translator (key_from z a e d)
-  served-fits (Launch room) = launched-fits h.translator v.translator
-  served-fits (Deliver r b) = omega arith
-  served-fits (Event e n) = omega arith
-  served-fits Tick = omega arith
-  served-fits BusReset = omega arith
+  served_fits (Control z s room) = requested_fits (lane_from z) (request_of h.identity.ports s)
+  served_fits (Poll z room) = polled_fits
+  served_fits (Start z p t l g a e b) = omega arith
+  served_fits (Complete z a e d room) = completed_fits h.translator v.translator (key_from z a e d)
+  served_fits (Launch room) = launched_fits h.translator v.translator
+  served_fits (Deliver r b) = omega arith
+  served_fits (Event e n) = omega arith
+  served_fits Tick = omega arith
+  served_fits BusReset = omega arith
 
   pub bytes_fit : (c : Call) → length (step h c).answer.bytes ≤ 64
-  bytes_fit c = by-step h c Fit (λ n. omega arith) (λ w f. served-fits c)
+  bytes_fit c = by_step h c Fit (λ n. omega arith) (λ w f. served_fits c)

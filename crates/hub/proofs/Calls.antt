@@ -11,13 +11,13 @@ use lib.Dec.{eqb}
 use lib.ListN.{get_or, take, length, length-take}
 use Rattle.payload.specs.declared.Payload.{Payload}
 use Rattle.payload.specs.Payload.{padded, payload_of, content}
-use Rattle.payload.proofs.Laws.{content-of, take_min}
+use Rattle.payload.proofs.Laws.{content_of, take_min}
 use Rattle.port.specs.declared.Port.{Port}
 use Rattle.port.specs.declared.PortNumber.{PortNumber}
 use Rattle.port.specs.declared.LineEvent.{LineEvent}
 use Rattle.port.specs.Reaction.{Answered}
 use Rattle.port.specs.Events.{line_event}
-use Rattle.port.proofs.Claimed.{port-claims}
+use Rattle.port.proofs.Claimed.{port_claims_lem}
 use Rattle.ports.specs.Ports.{port_at}
 use Rattle.ports.proofs.Laws.{put_back}
 use Rattle.ports.specs.Bitmap.{bitmap_of}
@@ -39,76 +39,76 @@ use Rattle.hub.specs.Requests.{descriptor, by_request, served_always, requested}
 use Rattle.hub.specs.Rules.{polled, stepped_at, event_at}
 use Rattle.hub.specs.Checks.{within, has_space, not_silent, fitting, unless, first_refusal}
 use Rattle.hub.specs.Step.{served, step}
-use Rattle.hub.proofs.Order.{refused-by}
+use Rattle.hub.proofs.Order.{refused_by}
 
 -- a poll leaves the hub as it was
-pub polled-stays : (h : Hub) → (polled h).next ≡ h
+pub polled_stays : (h : Hub) → (polled h).next ≡ h
 unfolding polled
-polled-stays h = go (eqb (bitmap_of h.identity.ports h.ports) 0)
+polled_stays h = go (eqb (bitmap_of h.identity.ports h.ports) 0)
   where
     go : (b : Bool) → (cond {A = Outcome} b (refuse 3 h) (gives h (bitmap_of h.identity.ports h.ports ∷ []))).next ≡ h
     go true = refl
     go false = refl
 
 module _ (h : Hub) {o : Outcome} where
-  pub poll-nothing : {m : ℕ} → o ≡ plain h 3 → m ≡ bitmap_of h.identity.ports h.ports → m ≡ 0 → o ≡ polled h
+  pub poll_nothing : {m : ℕ} → o ≡ plain h 3 → m ≡ bitmap_of h.identity.ports h.ports → m ≡ 0 → o ≡ polled h
   unfolding polled
-  poll-nothing e b z = e ∙ rw (← b, z)
+  poll_nothing e b z = e ∙ rw (← b, z)
 
-  pub poll-data : {m : ℕ} {p : Payload} → o ≡ gives h (content p) → p ≡ payload_of (m ∷ []) → m ≡ bitmap_of h.identity.ports h.ports → ¬ (m ≡ 0)
+  pub poll_data : {m : ℕ} {p : Payload} → o ≡ gives h (content p) → p ≡ payload_of (m ∷ []) → m ≡ bitmap_of h.identity.ports h.ports → ¬ (m ≡ 0)
       → o ≡ polled h
   unfolding polled payload_of padded
-  poll-data {m} e p b z = e ∙ rw (p, ← b, ne_eqb m 0 z)
+  poll_data {m} e p b z = e ∙ rw (p, ← b, ne_eqb m 0 z)
 
   -- the bytes are taken one by one: the request is read from them by their places
-  pub control-served : (z : ℕ) (s : List ℕ) {y : Lane} {r : Request} → o ≡ requested h y r → y ≡ lane_from z
+  pub control_served : (z : ℕ) (s : List ℕ) {y : Lane} {r : Request} → o ≡ requested h y r → y ≡ lane_from z
       → r ≡ request_of h.identity.ports (get_or s 0 0 ∷ get_or s 1 0 ∷ get_or s 2 0 ∷ get_or s 3 0 ∷ get_or s 4 0 ∷ get_or s 5 0 ∷ get_or s 6 0 ∷ get_or s 7 0 ∷ [])
       → o ≡ requested h (lane_from z) (request_of h.identity.ports s)
   unfolding request_of
-  control-served z s e l q = e ∙ ap₂ (requested h) l q
+  control_served z s e l q = e ∙ ap₂ (requested h) l q
 
   -- unconfigured, only some requests are served
-  pub requested-done : (y : Lane) (r : Request) {b s : Bool} → o ≡ by_request h y r → b ≡ (h.configured || s) → s ≡ served_always r → b ≡ true → o ≡ requested h y r
+  pub requested_done : (y : Lane) (r : Request) {b s : Bool} → o ≡ by_request h y r → b ≡ (h.configured || s) → s ≡ served_always r → b ≡ true → o ≡ requested h y r
   unfolding requested
-  requested-done y r e b s t = e ∙ rw (← s, ← b, t)
+  requested_done y r e b s t = e ∙ rw (← s, ← b, t)
 
-  pub requested-refused : (y : Lane) (r : Request) {b s : Bool} → o ≡ refuse 2 h → b ≡ (h.configured || s) → s ≡ served_always r → b ≡ false → o ≡ requested h y r
+  pub requested_refused : (y : Lane) (r : Request) {b s : Bool} → o ≡ refuse 2 h → b ≡ (h.configured || s) → s ≡ served_always r → b ≡ false → o ≡ requested h y r
   unfolding requested
-  requested-refused y r e b s t = e ∙ rw (← s, ← b, t)
+  requested_refused y r e b s t = e ∙ rw (← s, ← b, t)
 
   -- the descriptor is cut to the length that is asked
-  pub descriptor-cut : (n : ℕ) {k : ℕ} {p : Payload} → o ≡ gives h (content p) → p ≡ payload_of (take k (descriptor h.identity)) → k ≡ min n 9
+  pub descriptor_cut : (n : ℕ) {k : ℕ} {p : Payload} → o ≡ gives h (content p) → p ≡ payload_of (take k (descriptor h.identity)) → k ≡ min n 9
       → o ≡ gives h (take n (descriptor h.identity))
-  descriptor-cut n {k} e p q =
+  descriptor_cut n {k} e p q =
       let d = descriptor h.identity in
       let m : k ≡ min (length d) n = omega arith in
       let l : length (take k d) ≤ 64 = simp length-take (omega arith) in
-      e ∙ ap (gives h) (ap content p ∙ content-of (take k d) l ∙ ap (λ (x : ℕ). take x d) m ∙ take_min n d)
+      e ∙ ap (gives h) (ap content p ∙ content_of (take k d) l ∙ ap (λ (x : ℕ). take x d) m ∙ take_min n d)
 
 -- whether the translator takes the call in its state
-pub launch-fits : (t : Translator) {x : Launched} {n : ℕ} → n ≡ launch_number x.answer → x ≡ launch t → not (eqb n 8) ≡ not (eqb (launch_number (launch t).answer) 8)
-launch-fits t e f = rw (e, f)
+pub launch_fits : (t : Translator) {x : Launched} {n : ℕ} → n ≡ launch_number x.answer → x ≡ launch t → not (eqb n 8) ≡ not (eqb (launch_number (launch t).answer) 8)
+launch_fits t e f = rw (e, f)
 
-pub deliver-fits : (t : Translator) (r : DeviceResult) (l : List ℕ) {x : Delivered} {k : DeviceResult} {n : ℕ} → n ≡ deliver_number x.answer → x ≡ deliver t k l → k ≡ r
+pub deliver_fits : (t : Translator) (r : DeviceResult) (l : List ℕ) {x : Delivered} {k : DeviceResult} {n : ℕ} → n ≡ deliver_number x.answer → x ≡ deliver t k l → k ≡ r
     → not (eqb n 8) ≡ not (eqb (deliver_number (deliver t r l).answer) 8)
-deliver-fits t r l e f g = rw (e, f, g)
+deliver_fits t r l e f g = rw (e, f, g)
 
 -- ---- a line event: its numbers and the hub's configuration are looked at before the port, and the port's own answer is the last check
 
-refuses-still : (w f x : Bool) → ¬ (first_refusal w true true f ≡ 0) → first_refusal w true true f ≡ first_refusal w true true (f && x)
-refuses-still true true x d = absurd (d refl)
-refuses-still true false x d = refl
-refuses-still false f x d = refl
+refuses_still : (w f x : Bool) → ¬ (first_refusal w true true f ≡ 0) → first_refusal w true true f ≡ first_refusal w true true (f && x)
+refuses_still true true x d = absurd (d refl)
+refuses_still true false x d = refl
+refuses_still false f x d = refl
 
-port-decides : (w f x : Bool) → first_refusal w true true f ≡ 0 → first_refusal w true true (f && x) ≡ unless x 8 0
-port-decides true true x e = refl
-port-decides true false x e = absurd (omega (arith, e))
-port-decides false f x e = absurd (omega (arith, e))
+port_decides : (w f x : Bool) → first_refusal w true true f ≡ 0 → first_refusal w true true (f && x) ≡ unless x 8 0
+port_decides true true x e = refl
+port_decides true false x e = absurd (omega (arith, e))
+port_decides false f x e = absurd (omega (arith, e))
 
 -- a port that answers 8 is put back as it stood
-last-check : (h : Hub) (e : LineEvent) (m : PortNumber)
+last_check : (h : Hub) (e : LineEvent) (m : PortNumber)
     → (let k = unless (not (eqb (line_event (port_at h.ports m) e).number 8)) 8 0 in cond {A = Outcome} (eqb k 0) (event_at h e m) (refuse k h)) ≡ event_at h e m
-last-check h e m =
+last_check h e m =
     let p = port_at h.ports m in
     let o = line_event p e in
     let F : ℕ → Outcome = λ (i : ℕ). let k = unless (not (eqb i 8)) 8 0 in cond {A = Outcome} (eqb k 0) (event_at h e m) (refuse k h) in
@@ -116,26 +116,26 @@ last-check h e m =
     (λ (z : o.number ≡ 8).
     ap F z
     ∙ sym
-    (ap₂ (λ (q : Port) (i : ℕ). plain (with_port_at h m q) i) (port-claims.refused-unchanged p e z) z
+    (ap₂ (λ (q : Port) (i : ℕ). plain (with_port_at h m q) i) (port_claims_lem.refused_unchanged p e z) z
     ∙ ap (λ (ps : List Port). plain (with_ports h ps) 8) (put_back h.ports m)))
-    (port-claims.event-answers p e)
+    (port_claims_lem.event_answers p e)
 
 module _ (h : Hub) (e n : ℕ) {o : Outcome} where
-  pub event-at : {x : Answered} {p : Port} {v : LineEvent} → o ≡ stepped_at h (record { 0 = n }) x → x ≡ line_event p v
+  pub event_at_lem : {x : Answered} {p : Port} {v : LineEvent} → o ≡ stepped_at h (record { 0 = n }) x → x ≡ line_event p v
       → p ≡ port_at h.ports (record { 0 = n }) → v ≡ event_from e → o ≡ event_at h (event_from e) (record { 0 = n })
-  event-at s made port event = s ∙ ap (stepped_at h (record { 0 = n })) (made ∙ ap₂ line_event port event)
+  event_at_lem s made port event = s ∙ ap (stepped_at h (record { 0 = n })) (made ∙ ap₂ line_event port event)
 
   module _ {m : ℕ} {w : Bool} where
-    pub event-refused : o ≡ plain h m → m ≡ first_refusal w true true h.configured → w ≡ within h (Event e n) → ¬ (m ≡ 0) → o ≡ step h (Event e n)
+    pub event_refused : o ≡ plain h m → m ≡ first_refusal w true true h.configured → w ≡ within h (Event e n) → ¬ (m ≡ 0) → o ≡ step h (Event e n)
     unfolding has_space not_silent fitting
-    event-refused a g i z = refused-by h (Event e n) a (g ∙ refuses-still w h.configured _ (λ y. z (g ∙ y))) i refl refl refl z
+    event_refused a g i z = refused_by h (Event e n) a (g ∙ refuses_still w h.configured _ (λ y. z (g ∙ y))) i refl refl refl z
 
-    pub event-stepped : m ≡ first_refusal w true true h.configured → w ≡ within h (Event e n) → m ≡ 0 → o ≡ event_at h (event_from e) (record { 0 = n })
+    pub event_stepped : m ≡ first_refusal w true true h.configured → w ≡ within h (Event e n) → m ≡ 0 → o ≡ event_at h (event_from e) (record { 0 = n })
         → o ≡ step h (Event e n)
     unfolding step has_space not_silent fitting served
-    event-stepped g i z a =
+    event_stepped g i z a =
         a
         ∙ sym
         (ap (λ (k : ℕ). cond {A = Outcome} (eqb k 0) (event_at h (event_from e) (record { 0 = n })) (refuse k h))
-        (port-decides (within h (Event e n)) h.configured _ (ap (λ (b : Bool). first_refusal b true true h.configured) (sym i) ∙ sym g ∙ z))
-        ∙ last-check h (event_from e) (record { 0 = n }))
+        (port_decides (within h (Event e n)) h.configured _ (ap (λ (b : Bool). first_refusal b true true h.configured) (sym i) ∙ sym g ∙ z))
+        ∙ last_check h (event_from e) (record { 0 = n }))

@@ -15,24 +15,24 @@ use Rattle.hub.specs.Call.{Call, Control, Poll, Start, Complete, Launch, Deliver
 use Rattle.hub.specs.Checks.{within}
 use Rattle.hub.specs.Step.{step}
 
-no-lane : (z y : ℕ) → ◌≡◌ {A = Option ℕ} (some y) (some z) → 2 ≤ z → is_lane y ≡ false
-no-lane z y e l = let same : y ≡ z = cc in rw (ne_eqb y 0 (λ q. omega (arith, q, l, same)), ne_eqb y 1 (λ q. omega (arith, q, l, same)))
+no_lane : (z y : ℕ) → ◌≡◌ {A = Option ℕ} (some y) (some z) → 2 ≤ z → is_lane y ≡ false
+no_lane z y e l = let same : y ≡ z = cc in rw (ne_eqb y 0 (λ q. omega (arith, q, l, same)), ne_eqb y 1 (λ q. omega (arith, q, l, same)))
 
-carries-none : (z : ℕ) → ¬ (◌≡◌ {A = Option ℕ} none (some z))
-carries-none z e = let x : ◌≡◌ {A = ℕ} 0 1 = cc in omega (arith, x)
+carries_none : (z : ℕ) → ¬ (◌≡◌ {A = Option ℕ} none (some z))
+carries_none z e = let x : ◌≡◌ {A = ℕ} 0 1 = cc in omega (arith, x)
 
 outside : (h : Hub) (c : Call) → within h c ≡ false → step h c ≡ refuse 6 h
 unfolding step
 outside h c e = rw e
 
-pub no-such-lane : (h : Hub) (c : Call) (z : ℕ) → lane_of c ≡ some z → 2 ≤ z → step h c ≡ refuse 6 h
+pub no_such_lane_lem : (h : Hub) (c : Call) (z : ℕ) → lane_of c ≡ some z → 2 ≤ z → step h c ≡ refuse 6 h
 unfolding within split_named key_named
-no-such-lane h (Control y s room) z q l = outside h (Control y s room) (rw (no-lane z y q l) (and-false (eqb (length s) 8)))
-no-such-lane h (Poll y room) z q l = outside h (Poll y room) (no-lane z y q l)
-no-such-lane h (Start y p t f g a e x) z q l = outside h (Start y p t f g a e x) (rw (no-lane z y q l))
-no-such-lane h (Complete y a e d room) z q l = outside h (Complete y a e d room) (rw (no-lane z y q l))
-no-such-lane h (Launch room) z q l = absurd (carries-none z q)
-no-such-lane h (Deliver r x) z q l = absurd (carries-none z q)
-no-such-lane h (Event e n) z q l = absurd (carries-none z q)
-no-such-lane h Tick z q l = absurd (carries-none z q)
-no-such-lane h BusReset z q l = absurd (carries-none z q)
+no_such_lane_lem h (Control y s room) z q l = outside h (Control y s room) (rw (no_lane z y q l) (and-false (eqb (length s) 8)))
+no_such_lane_lem h (Poll y room) z q l = outside h (Poll y room) (no_lane z y q l)
+no_such_lane_lem h (Start y p t f g a e x) z q l = outside h (Start y p t f g a e x) (rw (no_lane z y q l))
+no_such_lane_lem h (Complete y a e d room) z q l = outside h (Complete y a e d room) (rw (no_lane z y q l))
+no_such_lane_lem h (Launch room) z q l = absurd (carries_none z q)
+no_such_lane_lem h (Deliver r x) z q l = absurd (carries_none z q)
+no_such_lane_lem h (Event e n) z q l = absurd (carries_none z q)
+no_such_lane_lem h Tick z q l = absurd (carries_none z q)
+no_such_lane_lem h BusReset z q l = absurd (carries_none z q)

@@ -52,15 +52,15 @@ use Rattle.hub.specs.Call.{Call, Control, Poll, Start, Complete, Launch, Deliver
 use Rattle.hub.specs.Requests.{keyed, by_request, served_always, requested}
 use Rattle.hub.specs.Rules.{polled}
 use Rattle.hub.specs.Step.{served, step}
-use Rattle.hub.proofs.Order.{by-step}
+use Rattle.hub.proofs.Order.{by_step}
 use Rattle.hub.proofs.Valid.{completed-next, launched-next}
 
 -- ---- the translator's count of buffers
 
 module _ (t : Translator) where
-  start-count : (s : StartSplit) (l : List ℕ) → (start_split t s l).next.count ≡ t.count
+  start_count : (s : StartSplit) (l : List ℕ) → (start_split t s l).next.count ≡ t.count
   unfolding start_split stored
-  start-count s l = go (start_fits s (length l)) (permitted t.count (key_of s) (take t.count t.buffers))
+  start_count s l = go (start_fits s (length l)) (permitted t.count (key_of s) (take t.count t.buffers))
     where
       go : (x : Bool) (c : Choice) → (cond x (start_by t s l c) (record { next = t; answer = start.Outside })).next.count ≡ t.count
       go true NoRoom = refl
@@ -70,9 +70,9 @@ module _ (t : Translator) where
       go true (Took n) = refl
       go false c = refl
 
-  complete-count : (k : Key) → (complete_split t k).next.count ≡ t.count
+  complete_count : (k : Key) → (complete_split t k).next.count ≡ t.count
   unfolding complete_split
-  complete-count k = go (find (holds k) (take t.count t.buffers))
+  complete_count k = go (find (holds k) (take t.count t.buffers))
     where
       slot : (n : BufferNumber) (p : Payload) (s : Slot) → (completed t n p s).next.count ≡ t.count
       slot n p Empty = refl
@@ -84,9 +84,9 @@ module _ (t : Translator) where
       go Nowhere = refl
       go (At n) = slot n (at t.buffers n.0).payload (at t.buffers n.0).slot
 
-  launch-count : (launch t).next.count ≡ t.count
+  launch_count : (launch t).next.count ≡ t.count
   unfolding launch
-  launch-count = go t.low
+  launch_count = go t.low
     where
       slot : (n : BufferNumber) (p : Payload) (s : Slot) → (launched t n p s).next.count ≡ t.count
       slot n p Empty = refl
@@ -103,9 +103,9 @@ module _ (t : Translator) where
       go (Running n) = refl
       go Abandoned = refl
 
-  deliver-count : (r : DeviceResult) (l : List ℕ) → (deliver t r l).next.count ≡ t.count
+  deliver_count : (r : DeviceResult) (l : List ℕ) → (deliver t r l).next.count ≡ t.count
   unfolding deliver
-  deliver-count r l = go (result_length r (length l)) t.low
+  deliver_count r l = go (result_length r (length l)) t.low
     where
       suited : (o : Delivered) → o.next.count ≡ t.count → (x : Bool) → (cond x o (undelivered t answer.NotInThisState)).next.count ≡ t.count
       suited o e true = e
@@ -123,17 +123,17 @@ module _ (t : Translator) where
       go true Abandoned = refl
       go false l' = refl
 
-  clear-count : (k : Key) → (clear_buffer t k).count ≡ t.count
+  clear_count : (k : Key) → (clear_buffer t k).count ≡ t.count
   unfolding clear_buffer
-  clear-count k = go (find (holds k) (take t.count t.buffers))
+  clear_count k = go (find (holds k) (take t.count t.buffers))
     where
       go : (f : Found) → (clear_at t f).count ≡ t.count
       go Nowhere = refl
       go (At n) = refl
 
-  reset-count : (z : Lane) → (reset_lane t z).count ≡ t.count
+  reset_count : (z : Lane) → (reset_lane t z).count ≡ t.count
   unfolding reset_lane
-  reset-count z = refl
+  reset_count z = refl
 
 -- ---- the hub
 
@@ -146,64 +146,64 @@ module _ (h : Hub) where
   nothing : SameNumbers h h
   nothing = record { identity = refl; buffers = refl }
 
-  translator-numbers : (t : Translator) → t.count ≡ h.translator.count → SameNumbers h (with_translator h t)
-  translator-numbers t e = record { identity = refl; buffers = e }
+  translator_numbers : (t : Translator) → t.count ≡ h.translator.count → SameNumbers h (with_translator h t)
+  translator_numbers t e = record { identity = refl; buffers = e }
 
-  request-numbers : (y : Lane) (r : Request) → SameNumbers h (by_request h y r).next
+  request_numbers : (y : Lane) (r : Request) → SameNumbers h (by_request h y r).next
   unfolding configured_as
-  request-numbers y (Wrong f) = nothing
-  request-numbers y (SetConfiguration on) = record { identity = refl; buffers = refl }
-  request-numbers y GetConfiguration = nothing
-  request-numbers y (GetHubDescriptor n) = nothing
-  request-numbers y GetHubStatus = nothing
-  request-numbers y (GetPortStatus n) = nothing
-  request-numbers y ClearHubFeature = nothing
-  request-numbers y (ClearPortFeature n f) = record { identity = refl; buffers = refl }
-  request-numbers y (SetPortFeature n f) = record { identity = refl; buffers = refl }
-  request-numbers y (ClearTTBuffer k) = translator-numbers _ (clear-count h.translator (keyed y k))
-  request-numbers y ResetTT = translator-numbers _ (reset-count h.translator y)
+  request_numbers y (Wrong f) = nothing
+  request_numbers y (SetConfiguration on) = record { identity = refl; buffers = refl }
+  request_numbers y GetConfiguration = nothing
+  request_numbers y (GetHubDescriptor n) = nothing
+  request_numbers y GetHubStatus = nothing
+  request_numbers y (GetPortStatus n) = nothing
+  request_numbers y ClearHubFeature = nothing
+  request_numbers y (ClearPortFeature n f) = record { identity = refl; buffers = refl }
+  request_numbers y (SetPortFeature n f) = record { identity = refl; buffers = refl }
+  request_numbers y (ClearTTBuffer k) = translator_numbers _ (clear_count h.translator (keyed y k))
+  request_numbers y ResetTT = translator_numbers _ (reset_count h.translator y)
 
-  requested-numbers : (y : Lane) (r : Request) → SameNumbers h (requested h y r).next
+  requested_numbers : (y : Lane) (r : Request) → SameNumbers h (requested h y r).next
   unfolding requested
-  requested-numbers y r =
+  requested_numbers y r =
       elim (h.configured || served_always r) as (λ b. SameNumbers h (cond b (by_request h y r) (refuse 2 h)).next) [
-        | true ↦ request-numbers y r
+        | true ↦ request_numbers y r
         | false ↦ nothing
       ]
 
-  polled-numbers : SameNumbers h (polled h).next
+  polled_numbers : SameNumbers h (polled h).next
   unfolding polled
-  polled-numbers =
+  polled_numbers =
       let b = bitmap_of h.identity.ports h.ports in
       elim (eqb b 0) as (λ x. SameNumbers h (cond x (refuse 3 h) (gives h (b ∷ []))).next) [
         | true ↦ nothing
         | false ↦ nothing
       ]
 
-  ticked-numbers : SameNumbers h (ticked_hub h)
+  ticked_numbers : SameNumbers h (ticked_hub h)
   unfolding ticked_hub
-  ticked-numbers =
+  ticked_numbers =
       elim h.configured as (λ x. SameNumbers h (cond x (with_ports h (swept sweep.Tick h.identity.ports h.ports)) h)) [
         | true ↦ record { identity = refl; buffers = refl }
         | false ↦ nothing
       ]
 
-  served-numbers : (c : Call) → SameNumbers h (served h c).next
+  served_numbers : (c : Call) → SameNumbers h (served h c).next
   unfolding served reset_hub
-  served-numbers (Control z s room) = requested-numbers (lane_from z) (request_of h.identity.ports s)
-  served-numbers (Poll z room) = polled-numbers
-  served-numbers (Start z p t l g a e b) = translator-numbers _ (start-count h.translator (split_from z p t l g a e) b)
-  served-numbers (Complete z a e d room) =
+  served_numbers (Control z s room) = requested_numbers (lane_from z) (request_of h.identity.ports s)
+  served_numbers (Poll z room) = polled_numbers
+  served_numbers (Start z p t l g a e b) = translator_numbers _ (start_count h.translator (split_from z p t l g a e) b)
+  served_numbers (Complete z a e d room) =
       let o = complete_split h.translator (key_from z a e d) in
       subst (SameNumbers h) (sym (completed-next (with_translator h o.next) o.answer o.payload))
-      (translator-numbers _ (complete-count h.translator (key_from z a e d)))
-  served-numbers (Launch room) =
+      (translator_numbers _ (complete_count h.translator (key_from z a e d)))
+  served_numbers (Launch room) =
       let o = launch h.translator in
-      subst (SameNumbers h) (sym (launched-next (with_translator h o.next) o.answer o.payload)) (translator-numbers _ (launch-count h.translator))
-  served-numbers (Deliver r b) = translator-numbers _ (deliver-count h.translator (result_from r) b)
-  served-numbers (Event e n) = record { identity = refl; buffers = refl }
-  served-numbers Tick = ticked-numbers
-  served-numbers BusReset = record { identity = refl; buffers = refl }
+      subst (SameNumbers h) (sym (launched-next (with_translator h o.next) o.answer o.payload)) (translator_numbers _ (launch_count h.translator))
+  served_numbers (Deliver r b) = translator_numbers _ (deliver_count h.translator (result_from r) b)
+  served_numbers (Event e n) = record { identity = refl; buffers = refl }
+  served_numbers Tick = ticked_numbers
+  served_numbers BusReset = record { identity = refl; buffers = refl }
 
-  pub numbers-kept : (c : Call) → SameNumbers h (step h c).next
-  numbers-kept c = by-step h c (λ o. SameNumbers h o.next) (λ n. nothing) (λ w f. served-numbers c)
+  pub numbers_kept : (c : Call) → SameNumbers h (step h c).next
+  numbers_kept c = by_step h c (λ o. SameNumbers h o.next) (λ n. nothing) (λ w f. served_numbers c)

@@ -15,21 +15,21 @@ left a b e = ((and-eq-true_iff a b).0 e).0
 pub right : (a b : Bool) → (a && b) ≡ true → b ≡ true
 right a b e = ((and-eq-true_iff a b).0 e).1
 
-pub below-256 : (n r : ℕ) → n ≤ 7 → r < 2 ^ (n + 1) → r < 256
-below-256 n r h l = omega (arith, l, pow-le-pow_right {n = 2} (omega arith) {i = n + 1} {j = 8} (omega arith))
+pub below_256 : (n r : ℕ) → n ≤ 7 → r < 2 ^ (n + 1) → r < 256
+below_256 n r h l = omega (arith, l, pow-le-pow_right {n = 2} (omega arith) {i = n + 1} {j = 8} (omega arith))
 
 -- what is none of the first numbers is past them
 pub past : (k : ℕ) {n : ℕ} → k ≤ n → ¬ (n ≡ k) → suc k ≤ n
 past k h d = omega arith
 
-pub last-power : (n : ℕ) → 7 ≤ n → n ≤ 7 → 256 ≡ 2 ^ (n + 1)
-last-power n h g = let e : n ≡ 7 = omega arith in rw e
+pub last_power : (n : ℕ) → 7 ≤ n → n ≤ 7 → 256 ≡ 2 ^ (n + 1)
+last_power n h g = let e : n ≡ 7 = omega arith in rw e
 
 pub record Fits (n b g c r : ℕ) : Type 0 where
-  pub ports-least : 1 ≤ n
-  pub ports-most : n ≤ 7
-  pub buffers-least : 2 ≤ b
-  pub buffers-most : b ≤ 4
+  pub ports_least : 1 ≤ n
+  pub ports_most : n ≤ 7
+  pub buffers_least : 2 ≤ b
+  pub buffers_most : b ≤ 4
   pub powergood : g < 256
   pub current : c < 256
   pub removable : r < 256
@@ -50,13 +50,13 @@ module _ (n b g c r : ℕ) where
       let m = right bytes marked y in
       let most : n ≤ 7 = leb-true n 7 (right (leb 1 n) (leb n 7) p) in
       record {
-        ports-least = leb-true 1 n (left (leb 1 n) (leb n 7) p);
-        ports-most = most;
-        buffers-least = leb-true 2 b (left (leb 2 b) (leb b 4) q);
-        buffers-most = leb-true b 4 (right (leb 2 b) (leb b 4) q);
+        ports_least = leb-true 1 n (left (leb 1 n) (leb n 7) p);
+        ports_most = most;
+        buffers_least = leb-true 2 b (left (leb 2 b) (leb b 4) q);
+        buffers_most = leb-true b 4 (right (leb 2 b) (leb b 4) q);
         powergood = ltb-true g 256 (left (ltb g 256) (ltb c 256) v);
         current = ltb-true c 256 (right (ltb g 256) (ltb c 256) v);
-        removable = below-256 n r most (ltb-true r (2 ^ (n + 1)) (right (eqb (r % 2) 0) (ltb r (2 ^ (n + 1))) m));
+        removable = below_256 n r most (ltb-true r (2 ^ (n + 1)) (right (eqb (r % 2) 0) (ltb r (2 ^ (n + 1))) m));
       }
 
   -- the test of the removable byte counts only for at most 7 ports
@@ -80,10 +80,10 @@ module _ (n b g c r : ℕ) where
       rw (le-leb 2 b' l, le-leb b' 4 m, x) (right ((leb 1 n && leb n 7) && (leb 2 b && leb b 4)) _ e)
 
   -- numbers that fit are bytes
-  pub new-made : {h : Hub} {t : Bool} → h ≡ hub_of (n % 256) (b % 256) (g % 256) (c % 256) (r % 256) → t ≡ new_fits n b g c r → t ≡ true
+  pub new_made : {h : Hub} {t : Bool} → h ≡ hub_of (n % 256) (b % 256) (g % 256) (c % 256) (r % 256) → t ≡ new_fits n b g c r → t ≡ true
       → record { number = 0; hub = h } ≡ new_hub n b g c r
   unfolding new_hub
-  new-made e f z =
+  new_made e f z =
       let t = sym f ∙ z in
       let s = fits t in
       let n' : n % 256 ≡ n = omega arith in

@@ -28,12 +28,12 @@ use Rattle.port.specs.declared.Input.{Input}
 use Rattle.port.specs.declared.Input.TheVariants as input
 use Rattle.port.specs.Input.{after}
 use Rattle.port.specs.Words.{is_not_configured, TimerBelowEnd, Among}
-use Rattle.port.proofs.States.{by_state, row, each, next, next-state}
+use Rattle.port.proofs.States.{by_state, row, each, next, next_state}
 use Rattle.ports.specs.declared.Sweep.{Sweep}
 use Rattle.ports.specs.Ports.{new_ports, port_at, with_port}
 use Rattle.ports.specs.Sweep.{swept_by, swept}
-use Rattle.ports.proofs.Front.{drop-front, get_d_front}
-use Rattle.ports.proofs.Laws.{at-port, set-port, ports-claims}
+use Rattle.ports.proofs.Front.{drop_front, get_d_front}
+use Rattle.ports.proofs.Laws.{at-port, set-port, ports_claims_lem}
 
 -- ---- no rule of a port but SetConfiguration makes it Not Configured
 
@@ -46,8 +46,8 @@ rows : (rule : Bool → PortState → Reaction) (l : Bool)
     → (s : PortState) → is_not_configured (next s (rule l s)) ≡ is_not_configured s
 rows rule l = each (λ s. is_not_configured (next s (rule l s))) is_not_configured
 
-tick-same : Same ticking.tick
-tick-same l =
+tick_same : Same ticking.tick
+tick_same l =
     by_state (λ s. is_not_configured (next s (ticking.tick l s)) ≡ is_not_configured s) refl refl refl (λ s. refl)
     (λ s t.
     elim (ltb t 14) as (λ b. is_not_configured (next (Resetting s t) (cond b (done (Resetting s (t + 1)) l []) (done (Enabled s) l (Reset ∷ [])))) ≡ false) [
@@ -61,23 +61,23 @@ tick-same l =
       | false ↦ refl
     ])
 
-chirp-speed : (l : Bool) (v : Speed) (t : ℕ) → is_not_configured (next (Resetting v t) (chirp l (Resetting v t))) ≡ false
-chirp-speed l Low t = refl
-chirp-speed l Full t = refl
-chirp-speed l High t = refl
+chirp_speed : (l : Bool) (v : Speed) (t : ℕ) → is_not_configured (next (Resetting v t) (chirp l (Resetting v t))) ≡ false
+chirp_speed l Low t = refl
+chirp_speed l Full t = refl
+chirp_speed l High t = refl
 
-event-same : (e : LineEvent) → Same (event_rule e)
-event-same AttachLow l = rows (attach Low) l (λ v t. refl)
-event-same AttachFull l = rows (attach Full) l (λ v t. refl)
-event-same Detach l = rows detach l (λ v t. refl)
-event-same Chirp l =
-    by_state (λ s. is_not_configured (next s (chirp l s)) ≡ is_not_configured s) refl refl refl (λ s. refl) (chirp-speed l) (λ s. refl) (λ s. refl) (λ s t. refl)
-event-same Wake l = rows wake l (λ v t. refl)
-event-same PortError l = rows port_error l (λ v t. refl)
-event-same OverCurrentOn true = rows over_current_on true (λ v t. refl)
-event-same OverCurrentOn false = rows over_current_on false (λ v t. refl)
-event-same OverCurrentOff true = rows over_current_off true (λ v t. refl)
-event-same OverCurrentOff false = rows over_current_off false (λ v t. refl)
+event_same : (e : LineEvent) → Same (event_rule e)
+event_same AttachLow l = rows (attach Low) l (λ v t. refl)
+event_same AttachFull l = rows (attach Full) l (λ v t. refl)
+event_same Detach l = rows detach l (λ v t. refl)
+event_same Chirp l =
+    by_state (λ s. is_not_configured (next s (chirp l s)) ≡ is_not_configured s) refl refl refl (λ s. refl) (chirp_speed l) (λ s. refl) (λ s. refl) (λ s t. refl)
+event_same Wake l = rows wake l (λ v t. refl)
+event_same PortError l = rows port_error l (λ v t. refl)
+event_same OverCurrentOn true = rows over_current_on true (λ v t. refl)
+event_same OverCurrentOn false = rows over_current_on false (λ v t. refl)
+event_same OverCurrentOff true = rows over_current_off true (λ v t. refl)
+event_same OverCurrentOff false = rows over_current_off false (λ v t. refl)
 
 set_same : (f : SettableFeature) → Same (set_rule f)
 set_same settable.Suspend l = rows set_suspend l (λ v t. refl)
@@ -85,8 +85,8 @@ set_same settable.Reset l = rows set_reset l (λ v t. refl)
 set_same settable.Power true = rows set_power true (λ v t. refl)
 set_same settable.Power false = rows set_power false (λ v t. refl)
 
-ruled-same : (rule : Bool → PortState → Reaction) → Same rule → (p : Port) → is_not_configured p.state ≡ false → is_not_configured (ruled rule p).port.state ≡ false
-ruled-same rule k p h = rw (next-state p (rule p.overcurrent p.state)) (k p.overcurrent p.state ∙ h)
+ruled_same : (rule : Bool → PortState → Reaction) → Same rule → (p : Port) → is_not_configured p.state ≡ false → is_not_configured (ruled rule p).port.state ≡ false
+ruled_same rule k p h = rw (next_state p (rule p.overcurrent p.state)) (k p.overcurrent p.state ∙ h)
 
 abbrev pub NotUnconfigure : Input → Type 0
 NotUnconfigure (input.Event e) = Unit {0}
@@ -97,17 +97,17 @@ NotUnconfigure input.Configure = Unit {0}
 NotUnconfigure input.Unconfigure = ⊥
 NotUnconfigure input.BusReset = ⊥
 
-pub stays-configured : (p : Port) (i : Input) → NotUnconfigure i → is_not_configured p.state ≡ false → is_not_configured (after p i).state ≡ false
-stays-configured p (input.Event e) n h = ruled-same (event_rule e) (event-same e) p h
-stays-configured p input.Tick n h = ruled-same ticking.tick tick-same p h
-stays-configured p (input.SetFeature f) n h = ruled-same (set_rule f) (set_same f) p h
-stays-configured p (input.ClearFeature clearable.Enable) n h = ruled-same clear_enable (λ l. rows clear_enable l (λ v t. refl)) p h
-stays-configured p (input.ClearFeature clearable.Suspend) n h = ruled-same clear_suspend (λ l. rows clear_suspend l (λ v t. refl)) p h
-stays-configured p (input.ClearFeature clearable.Power) n h = refl
-stays-configured p (input.ClearFeature (clearable.Change b)) n h = h
-stays-configured p input.Configure n h = refl
-stays-configured p input.Unconfigure n h = absurd n
-stays-configured p input.BusReset n h = absurd n
+pub stays_configured : (p : Port) (i : Input) → NotUnconfigure i → is_not_configured p.state ≡ false → is_not_configured (after p i).state ≡ false
+stays_configured p (input.Event e) n h = ruled_same (event_rule e) (event_same e) p h
+stays_configured p input.Tick n h = ruled_same ticking.tick tick_same p h
+stays_configured p (input.SetFeature f) n h = ruled_same (set_rule f) (set_same f) p h
+stays_configured p (input.ClearFeature clearable.Enable) n h = ruled_same clear_enable (λ l. rows clear_enable l (λ v t. refl)) p h
+stays_configured p (input.ClearFeature clearable.Suspend) n h = ruled_same clear_suspend (λ l. rows clear_suspend l (λ v t. refl)) p h
+stays_configured p (input.ClearFeature clearable.Power) n h = refl
+stays_configured p (input.ClearFeature (clearable.Change b)) n h = h
+stays_configured p input.Configure n h = refl
+stays_configured p input.Unconfigure n h = absurd n
+stays_configured p input.BusReset n h = absurd n
 
 -- ---- seven ports, of which the first n are the hub's
 
@@ -127,8 +127,8 @@ at_new (suc (suc (suc (suc (suc zero))))) = refl
 at_new (suc (suc (suc (suc (suc (suc zero)))))) = refl
 at_new (suc (suc (suc (suc (suc (suc (suc i))))))) = refl
 
-pub new-ports : (n : ℕ) → ValidPorts n false new_ports
-new-ports n =
+pub new_ports_lem : (n : ℕ) → ValidPorts n false new_ports
+new_ports_lem n =
     record {
       seven = refl;
       timers = λ i. subst (λ (p : Port). TimerBelowEnd p.state) (sym (at_new i)) tt;
@@ -144,49 +144,49 @@ below_or_not P i n x y = go (ltb i n) refl
     go false e = y (ltb-false i n e)
 
 module _ (n : ℕ) (on : Bool) (ps : List Port) (v : ValidPorts n on ps) (most : n ≤ 7) where
-  past-swept : (w : Sweep) (i : ℕ) → n ≤ i → get_or (swept w n ps) i new_port ≡ new_port
+  past_swept : (w : Sweep) (i : ℕ) → n ≤ i → get_or (swept w n ps) i new_port ≡ new_port
   unfolding swept
-  past-swept w i h =
+  past_swept w i h =
       let e : n + (i - n) ≡ i = omega arith in
       ap (λ (k : ℕ). get_or (swept w n ps) k new_port) (sym e)
       ∙ (sym (get_or-drop n (swept w n ps) (i - n) new_port)
-      ∙ (ap (λ (l : List Port). get_or l (i - n) new_port) (drop-front (swept_by w) n ps)
+      ∙ (ap (λ (l : List Port). get_or l (i - n) new_port) (drop_front (swept_by w) n ps)
       ∙ (get_or-drop n ps (i - n) new_port
       ∙ (ap (λ (k : ℕ). get_or ps k new_port) e ∙ v.spare i h))))
 
-  at-swept : (w : Sweep) (i : ℕ) → i < n → get_or (swept w n ps) i new_port ≡ swept_by w (get_or ps i new_port)
+  at_swept : (w : Sweep) (i : ℕ) → i < n → get_or (swept w n ps) i new_port ≡ swept_by w (get_or ps i new_port)
   unfolding swept
-  at-swept w i h = get_d_front (swept_by w) n i ps new_port h (omega (arith, h, most, v.seven))
+  at_swept w i h = get_d_front (swept_by w) n i ps new_port h (omega (arith, h, most, v.seven))
 
-  pub swept-valid : (w : Sweep) (now : Bool) → ((p : Port) → TimerBelowEnd p.state → TimerBelowEnd (swept_by w p).state)
+  pub swept_valid : (w : Sweep) (now : Bool) → ((p : Port) → TimerBelowEnd p.state → TimerBelowEnd (swept_by w p).state)
       → ((p : Port) → is_not_configured p.state ≡ not on → is_not_configured (swept_by w p).state ≡ not now) → ValidPorts n now (swept w n ps)
-  swept-valid w now t c =
+  swept_valid w now t c =
       record {
-        seven = ports-claims.sweep-length w n ps ∙ v.seven;
+        seven = ports_claims_lem.sweep_length w n ps ∙ v.seven;
         timers = λ i.
             below_or_not (TimerBelowEnd (get_or (swept w n ps) i new_port).state) i n
-            (λ h. subst (λ (p : Port). TimerBelowEnd p.state) (sym (at-swept w i h)) (t (get_or ps i new_port) (v.timers i)))
-            (λ h. subst (λ (p : Port). TimerBelowEnd p.state) (sym (past-swept w i h)) tt);
-        spare = past-swept w;
-        configuration = λ i h. ap (λ (p : Port). is_not_configured p.state) (at-swept w i h) ∙ c (get_or ps i new_port) (v.configuration i h);
+            (λ h. subst (λ (p : Port). TimerBelowEnd p.state) (sym (at_swept w i h)) (t (get_or ps i new_port) (v.timers i)))
+            (λ h. subst (λ (p : Port). TimerBelowEnd p.state) (sym (past_swept w i h)) tt);
+        spare = past_swept w;
+        configuration = λ i h. ap (λ (p : Port). is_not_configured p.state) (at_swept w i h) ∙ c (get_or ps i new_port) (v.configuration i h);
       }
 
   module _ (m : PortNumber) (among : Among n m) where
     -- the port is the hub's, ..
-    pub at-number : port_at ps m ≡ get_or ps (m.0 - 1) new_port
-    at-number = at-port ps m among.0 (omega (arith, among.1, most))
+    pub at_number : port_at ps m ≡ get_or ps (m.0 - 1) new_port
+    at_number = at-port ps m among.0 (omega (arith, among.1, most))
 
-    pub timer-at : TimerBelowEnd (port_at ps m).state
-    timer-at = subst (λ (p : Port). TimerBelowEnd p.state) (sym at-number) (v.timers (m.0 - 1))
+    pub timer_at : TimerBelowEnd (port_at ps m).state
+    timer_at = subst (λ (p : Port). TimerBelowEnd p.state) (sym at_number) (v.timers (m.0 - 1))
 
-    pub configured-at : is_not_configured (port_at ps m).state ≡ not on
-    configured-at = ap (λ (p : Port). is_not_configured p.state) at-number ∙ v.configuration (m.0 - 1) (omega (arith, among.0, among.1))
+    pub configured_at : is_not_configured (port_at ps m).state ≡ not on
+    configured_at = ap (λ (p : Port). is_not_configured p.state) at_number ∙ v.configuration (m.0 - 1) (omega (arith, among.0, among.1))
 
     -- .. and is set anew
-    pub set-valid : (p : Port) → TimerBelowEnd p.state → is_not_configured p.state ≡ not on → ValidPorts n on (with_port ps m p)
-    set-valid p t c =
+    pub set_valid : (p : Port) → TimerBelowEnd p.state → is_not_configured p.state ≡ not on → ValidPorts n on (with_port ps m p)
+    set_valid p t c =
         record {
-          seven = ports-claims.set-length ps m p ∙ v.seven;
+          seven = ports_claims_lem.set_length ps m p ∙ v.seven;
           timers = λ i.
               go (λ x. TimerBelowEnd x.state) i t (v.timers i);
           spare = λ i h. at_other i (λ e. omega (arith, among.0, among.1, h, e)) ∙ v.spare i h;

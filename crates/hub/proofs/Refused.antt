@@ -7,7 +7,7 @@ use mathlib.Core.Logic.{⊎_elim}
 use lib.Dec.{eqb}
 use borrow.Author.Tests.{not-true}
 use Rattle.port.specs.Events.{line_event}
-use Rattle.port.proofs.Claimed.{port-claims}
+use Rattle.port.proofs.Claimed.{port_claims_lem}
 use Rattle.ports.specs.Ports.{port_at}
 use Rattle.ports.specs.Bitmap.{bitmap_of}
 use Rattle.buffer.specs.declared.Key.{Key}
@@ -36,7 +36,7 @@ use Rattle.hub.specs.Requests.{by_request, served_always, requested}
 use Rattle.hub.specs.Rules.{polled, started_as, completed_by, completed_as, launched_by, launched_as, delivered_as}
 use Rattle.hub.specs.Checks.{within, fitting}
 use Rattle.hub.specs.Step.{served, step}
-use Rattle.hub.proofs.Order.{by-step}
+use Rattle.hub.proofs.Order.{by_step}
 use Rattle.hub.proofs.Numbers.{right}
 
 -- what a call with this outcome would have to be
@@ -44,57 +44,57 @@ abbrev Same : Hub → Outcome → Type 0
 Same h o = is_refusal o.answer.number ≡ true → o ≡ refuse o.answer.number h
 
 module _ (h : Hub) where
-  request-same : (y : Lane) (r : Request) → Same h (by_request h y r)
-  request-same y (Wrong f) e = refl
-  request-same y (SetConfiguration on) e = absurd (false≢true e)
-  request-same y GetConfiguration e = absurd (false≢true e)
-  request-same y (GetHubDescriptor n) e = absurd (false≢true e)
-  request-same y GetHubStatus e = absurd (false≢true e)
-  request-same y (GetPortStatus n) e = absurd (false≢true e)
-  request-same y ClearHubFeature e = absurd (false≢true e)
-  request-same y (ClearPortFeature n f) e = absurd (false≢true e)
-  request-same y (SetPortFeature n f) e = absurd (false≢true e)
-  request-same y (ClearTTBuffer k) e = absurd (false≢true e)
-  request-same y ResetTT e = absurd (false≢true e)
+  request_same : (y : Lane) (r : Request) → Same h (by_request h y r)
+  request_same y (Wrong f) e = refl
+  request_same y (SetConfiguration on) e = absurd (false≢true e)
+  request_same y GetConfiguration e = absurd (false≢true e)
+  request_same y (GetHubDescriptor n) e = absurd (false≢true e)
+  request_same y GetHubStatus e = absurd (false≢true e)
+  request_same y (GetPortStatus n) e = absurd (false≢true e)
+  request_same y ClearHubFeature e = absurd (false≢true e)
+  request_same y (ClearPortFeature n f) e = absurd (false≢true e)
+  request_same y (SetPortFeature n f) e = absurd (false≢true e)
+  request_same y (ClearTTBuffer k) e = absurd (false≢true e)
+  request_same y ResetTT e = absurd (false≢true e)
 
-  requested-same : (y : Lane) (r : Request) → Same h (requested h y r)
+  requested_same : (y : Lane) (r : Request) → Same h (requested h y r)
   unfolding requested
-  requested-same y r =
+  requested_same y r =
       elim (h.configured || served_always r) as (λ b. Same h (cond b (by_request h y r) (refuse 2 h))) [
-        | true ↦ request-same y r
+        | true ↦ request_same y r
         | false ↦ λ e. refl
       ]
 
-  polled-same : Same h (polled h)
+  polled_same : Same h (polled h)
   unfolding polled
-  polled-same =
+  polled_same =
       let b = bitmap_of h.identity.ports h.ports in
       elim (eqb b 0) as (λ x. Same h (cond x (refuse 3 h) (gives h (b ∷ [])))) [
         | true ↦ λ e. refl
         | false ↦ λ e. absurd (false≢true e)
       ]
 
-  data-served : (b : Bool) → ¬ (is_refusal (cond b 1 9) ≡ true)
-  data-served true e = false≢true e
-  data-served false e = false≢true e
+  data_served : (b : Bool) → ¬ (is_refusal (cond b 1 9) ≡ true)
+  data_served true e = false≢true e
+  data_served false e = false≢true e
 
-  completed-same : (k : Key) → Same h (completed_as h (complete_split h.translator k))
-  completed-same k = go (complete_split h.translator k).answer refl
+  completed_same : (k : Key) → Same h (completed_as h (complete_split h.translator k))
+  completed_same k = go (complete_split h.translator k).answer refl
     where
       next : (a : CompleteAnswer) → (complete_split h.translator k).answer ≡ a → is_refusal (complete_number a) ≡ true → (complete_split h.translator k).next ≡ h.translator
-      next a q e = (calls.refused-same).complete h.translator k (ap (λ (x : CompleteAnswer). is_refusal (complete_number x)) q ∙ e)
+      next a q e = (calls.refused_same).complete h.translator k (ap (λ (x : CompleteAnswer). is_refusal (complete_number x)) q ∙ e)
 
       go : (a : CompleteAnswer) → (complete_split h.translator k).answer ≡ a
           → Same h (completed_by (with_translator h (complete_split h.translator k).next) a (complete_split h.translator k).payload)
       go NoMatch q e = ap (λ (t : Translator). plain (with_translator h t) 2) (next NoMatch q refl)
       go NotYet q e = ap (λ (t : Translator). plain (with_translator h t) 4) (next NotYet q refl)
-      go (Gives r) q e = absurd (data-served (is_data r) e)
+      go (Gives r) q e = absurd (data_served (is_data r) e)
 
-  launched-same : Same h (launched_as h (launch h.translator))
-  launched-same = go (launch h.translator).answer refl
+  launched_same : Same h (launched_as h (launch h.translator))
+  launched_same = go (launch h.translator).answer refl
     where
       next : (a : LaunchAnswer) → (launch h.translator).answer ≡ a → is_refusal (launch_number a) ≡ true → (launch h.translator).next ≡ h.translator
-      next a q e = (calls.refused-same).launched h.translator (ap (λ (x : LaunchAnswer). is_refusal (launch_number x)) q ∙ e)
+      next a q e = (calls.refused_same).launched h.translator (ap (λ (x : LaunchAnswer). is_refusal (launch_number x)) q ∙ e)
 
       go : (a : LaunchAnswer) → (launch h.translator).answer ≡ a
           → Same h (launched_by (with_translator h (launch h.translator).next) a (launch h.translator).payload)
@@ -103,30 +103,30 @@ module _ (h : Hub) where
       go (Launches s) q e = absurd (false≢true e)
 
   -- a line event that its checks let pass is done
-  pub event-done : (e n : ℕ) → fitting h (Event e n) ≡ true → (line_event (port_at h.ports (record { 0 = n })) (event_from e)).number ≡ 0
+  pub event_done : (e n : ℕ) → fitting h (Event e n) ≡ true → (line_event (port_at h.ports (record { 0 = n })) (event_from e)).number ≡ 0
   unfolding fitting
-  event-done e n f =
+  event_done e n f =
       let p = port_at h.ports (record { 0 = n }) in
       let k = (line_event p (event_from e)).number in
       ⊎_elim (λ (z : k ≡ 0). z)
       (λ (z : k ≡ 8). absurd (true≢false (ap (λ (x : ℕ). eqb x 8) (sym z) ∙ not-true (eqb k 8) (right h.configured (not (eqb k 8)) f))))
-      (port-claims.event-answers p (event_from e))
+      (port_claims_lem.event_answers p (event_from e))
 
-  served-same : (c : Call) → within h c ≡ true → fitting h c ≡ true → Same h (served h c)
+  served_same : (c : Call) → within h c ≡ true → fitting h c ≡ true → Same h (served h c)
   unfolding fitting served
-  served-same (Control z s room) w f r = requested-same (lane_from z) (request_of h.identity.ports s) r
-  served-same (Poll z room) w f r = polled-same r
-  served-same (Start z p t l g a e b) w f r =
+  served_same (Control z s room) w f r = requested_same (lane_from z) (request_of h.identity.ports s) r
+  served_same (Poll z room) w f r = polled_same r
+  served_same (Start z p t l g a e b) w f r =
       let o = start_split h.translator (split_from z p t l g a e) b in
-      ap (λ (x : Translator). started_as h (record { next = x; answer = o.answer })) ((calls.refused-same).start h.translator (split_from z p t l g a e) b r)
-  served-same (Complete z a e d room) w f r = completed-same (key_from z a e d) r
-  served-same (Launch room) w f r = launched-same r
-  served-same (Deliver r b) w f e =
+      ap (λ (x : Translator). started_as h (record { next = x; answer = o.answer })) ((calls.refused_same).start h.translator (split_from z p t l g a e) b r)
+  served_same (Complete z a e d room) w f r = completed_same (key_from z a e d) r
+  served_same (Launch room) w f r = launched_same r
+  served_same (Deliver r b) w f e =
       let o = deliver h.translator (result_from r) b in
-      ap (λ (x : Translator). delivered_as h (record { next = x; answer = o.answer })) ((calls.refused-same).delivered h.translator (result_from r) b e)
-  served-same (Event e n) w f r = absurd (false≢true (ap is_refusal (sym (event-done e n f)) ∙ r))
-  served-same Tick w f e = absurd (false≢true e)
-  served-same BusReset w f e = absurd (false≢true e)
+      ap (λ (x : Translator). delivered_as h (record { next = x; answer = o.answer })) ((calls.refused_same).delivered h.translator (result_from r) b e)
+  served_same (Event e n) w f r = absurd (false≢true (ap is_refusal (sym (event_done e n f)) ∙ r))
+  served_same Tick w f e = absurd (false≢true e)
+  served_same BusReset w f e = absurd (false≢true e)
 
-  pub refused-same : (c : Call) → is_refusal (step h c).answer.number ≡ true → step h c ≡ refuse (step h c).answer.number h
-  refused-same c = by-step h c (Same h) (λ n e. refl) (served-same c)
+  pub refused_same : (c : Call) → is_refusal (step h c).answer.number ≡ true → step h c ≡ refuse (step h c).answer.number h
+  refused_same c = by_step h c (Same h) (λ n e. refl) (served_same c)

@@ -23,9 +23,9 @@ not-told x e a = true≢false (sym e ∙ x.1 a)
 pub passes : Tells true ⊥
 passes = (λ e. true≢false e, λ x. absurd x)
 
-pub both-tell : {A B : Type 0} (a b : Bool) → Tells a A → (a ≡ true → Tells b B) → Tells (a && b) (A ⊎ B)
-both-tell true b x y = (λ e. inr ((y refl).0 e), ⊎_elim (λ u. absurd (true≢false (x.1 u))) (y refl).1)
-both-tell false b x y = (λ e. inl (x.0 refl), λ u. refl)
+pub both_tell : {A B : Type 0} (a b : Bool) → Tells a A → (a ≡ true → Tells b B) → Tells (a && b) (A ⊎ B)
+both_tell true b x y = (λ e. inr ((y refl).0 e), ⊎_elim (λ u. absurd (true≢false (x.1 u))) (y refl).1)
+both_tell false b x y = (λ e. inl (x.0 refl), λ u. refl)
 
 pub regrouped : {A : Type 0} (a b c : Bool) → Tells (a && (b && c)) A → Tells ((a && b) && c) A
 regrouped true b c x = x
@@ -33,12 +33,12 @@ regrouped false b c x = x
 
 -- ---- one number
 
-pub not-over : (n m : ℕ) → Tells (leb n m) (m < n)
-not-over n m = tested (leb n m) (λ e l. let k : n ≤ m = leb-true n m e in omega (arith, k, l)) (leb-false n m)
+pub not_over : (n m : ℕ) → Tells (leb n m) (m < n)
+not_over n m = tested (leb n m) (λ e l. let k : n ≤ m = leb-true n m e in omega (arith, k, l)) (leb-false n m)
 
 pub is_number : (n m : ℕ) → Tells (eqb n m) (¬ (n ≡ m))
 is_number n m = tested (eqb n m) (λ e u. u (eqb-true n m e)) (eqb-false n m)
 
-pub below-tells : (n k m : ℕ) → m ≡ k + 1 → Tells (ltb n m) (k < n)
-below-tells n k m s =
+pub below_tells : (n k m : ℕ) → m ≡ k + 1 → Tells (ltb n m) (k < n)
+below_tells n k m s =
     tested (ltb n m) (λ e l. let x : n < m = ltb-true n m e in omega (arith, x, l, s)) (λ e. let x : m ≤ n = ltb-false n m e in omega (arith, x, s))

@@ -12,7 +12,7 @@ use Rattle.port.specs.declared.Input.{Input}
 use Rattle.port.specs.declared.Input.TheVariants as input
 use Rattle.port.specs.Input.{after}
 use Rattle.port.specs.Events.{line_event}
-use Rattle.port.proofs.Claimed.{port-claims}
+use Rattle.port.proofs.Claimed.{port_claims_lem}
 use Rattle.ports.specs.declared.Sweep.TheVariants as sweep
 use Rattle.ports.specs.Ports.{new_ports, port_at}
 use Rattle.ports.specs.Sweep.{swept}
@@ -33,7 +33,7 @@ use Rattle.request.specs.declared.Request.{Request}
 use Rattle.request.specs.declared.Request.TheVariants.{Wrong, SetConfiguration, GetConfiguration, GetHubDescriptor, GetHubStatus, GetPortStatus, ClearHubFeature, ClearPortFeature, SetPortFeature, ClearTTBuffer, ResetTT}
 use Rattle.request.specs.Request.{request_of}
 use Rattle.request.specs.Ranges.{InRange}
-use Rattle.request.proofs.Claimed.{request-claims}
+use Rattle.request.proofs.Claimed.{request_claims_lem}
 use Rattle.numbers.specs.Named.{lane_from, is_event, event_from, port_named, result_from}
 use Rattle.numbers.specs.Split.{split_from, key_from}
 use Rattle.hub.specs.declared.Hub.{Hub}
@@ -44,17 +44,17 @@ use Rattle.hub.specs.Rules.{polled, completed_by, launched_by}
 use Rattle.hub.specs.Checks.{within, fitting}
 use Rattle.hub.specs.Step.{served, step}
 use Rattle.hub.specs.Valid.{ValidHub}
-use Rattle.hub.proofs.Order.{by-step}
+use Rattle.hub.proofs.Order.{by_step}
 use Rattle.hub.proofs.Numbers.{left, right, fits, refit}
-use Rattle.hub.proofs.Ports.{ValidPorts, new-ports, swept-valid, timer-at, configured-at, set-valid, NotUnconfigure, stays-configured}
+use Rattle.hub.proofs.Ports.{ValidPorts, new_ports_lem, swept_valid, timer_at, configured_at, set_valid, NotUnconfigure, stays_configured}
 
 -- ---- a hub from its parts
 
-abbrev most-of : (h : Hub) → ValidHub h → h.identity.ports ≤ 7
-most-of h v = (fits h.identity.ports h.translator.count h.identity.powergood h.identity.current h.identity.removable v.numbers).ports-most
+abbrev most_of : (h : Hub) → ValidHub h → h.identity.ports ≤ 7
+most_of h v = (fits h.identity.ports h.translator.count h.identity.powergood h.identity.current h.identity.removable v.numbers).ports_most
 
-abbrev ports-of : (h : Hub) → ValidHub h → ValidPorts h.identity.ports h.configured h.ports
-ports-of h v = record { seven = v.seven; timers = v.timers; spare = v.spare; configuration = v.configuration }
+abbrev ports_of_lem : (h : Hub) → ValidHub h → ValidPorts h.identity.ports h.configured h.ports
+ports_of_lem h v = record { seven = v.seven; timers = v.timers; spare = v.spare; configuration = v.configuration }
 
 module _ (h : Hub) (v : ValidHub h) where
   made_of : (on : Bool) (ps : List Port) (t : Translator) → ValidPorts h.identity.ports on ps → ValidTranslator t
@@ -71,88 +71,88 @@ module _ (h : Hub) (v : ValidHub h) where
         translator = w;
       }
 
-  translator-valid : (t : Translator) → ValidTranslator t → ValidHub (with_translator h t)
-  translator-valid t w = made_of h.configured h.ports t (ports-of h v) w
+  translator_valid : (t : Translator) → ValidTranslator t → ValidHub (with_translator h t)
+  translator_valid t w = made_of h.configured h.ports t (ports_of_lem h v) w
 
-  empty-valid : ValidTranslator (emptied h.translator)
-  empty-valid = translating.new-valid h.translator.count v.translator.least v.translator.most
+  empty_valid : ValidTranslator (emptied h.translator)
+  empty_valid = translating.new_valid h.translator.count v.translator.least v.translator.most
 
   -- an input to one of the ports of a configured hub
-  port-valid : h.configured ≡ true → (m : PortNumber) → Among h.identity.ports m → (i : Input) → NotUnconfigure i
+  port_valid : h.configured ≡ true → (m : PortNumber) → Among h.identity.ports m → (i : Input) → NotUnconfigure i
       → ValidHub (with_port_at h m (after (port_at h.ports m) i))
-  port-valid on m among i n =
-      let ps = ports-of h v in
+  port_valid on m among i n =
+      let ps = ports_of_lem h v in
       made_of h.configured _ h.translator
-      (set-valid h.identity.ports h.configured h.ports ps (most-of h v) m among (after (port_at h.ports m) i)
-      (port-claims.timer-kept (port_at h.ports m) i (timer-at h.identity.ports h.configured h.ports ps (most-of h v) m among))
-      (stays-configured (port_at h.ports m) i n
-      (configured-at h.identity.ports h.configured h.ports ps (most-of h v) m among ∙ ap not on) ∙ ap not (sym on)))
+      (set_valid h.identity.ports h.configured h.ports ps (most_of h v) m among (after (port_at h.ports m) i)
+      (port_claims_lem.timer_kept (port_at h.ports m) i (timer_at h.identity.ports h.configured h.ports ps (most_of h v) m among))
+      (stays_configured (port_at h.ports m) i n
+      (configured_at h.identity.ports h.configured h.ports ps (most_of h v) m among ∙ ap not on) ∙ ap not (sym on)))
       v.translator
 
   -- ---- the requests
 
-  configured-valid : (on : Bool) → ValidHub (configured_as on h)
+  configured_valid : (on : Bool) → ValidHub (configured_as on h)
   unfolding configured_as
-  configured-valid true =
+  configured_valid true =
       made_of true _ _
-      (swept-valid h.identity.ports h.configured h.ports (ports-of h v) (most-of h v) sweep.Configure true (λ p t. tt) (λ p c. refl))
-      empty-valid
-  configured-valid false =
+      (swept_valid h.identity.ports h.configured h.ports (ports_of_lem h v) (most_of h v) sweep.Configure true (λ p t. tt) (λ p c. refl))
+      empty_valid
+  configured_valid false =
       made_of false _ _
-      (swept-valid h.identity.ports h.configured h.ports (ports-of h v) (most-of h v) sweep.Unconfigure false (λ p t. tt) (λ p c. refl))
-      empty-valid
+      (swept_valid h.identity.ports h.configured h.ports (ports_of_lem h v) (most_of h v) sweep.Unconfigure false (λ p t. tt) (λ p c. refl))
+      empty_valid
 
   only : (b : Bool) → (b || false) ≡ true → b ≡ true
   only true e = refl
   only false e = e
 
-  request-valid : (y : Lane) (r : Request) → InRange h.identity.ports r → (h.configured || served_always r) ≡ true → ValidHub (by_request h y r).next
-  request-valid y (Wrong f) i e = v
-  request-valid y (SetConfiguration on) i e = configured-valid on
-  request-valid y GetConfiguration i e = v
-  request-valid y (GetHubDescriptor n) i e = v
-  request-valid y GetHubStatus i e = v
-  request-valid y (GetPortStatus n) i e = v
-  request-valid y ClearHubFeature i e = v
-  request-valid y (ClearPortFeature n f) i e = port-valid (only h.configured e) n i (input.ClearFeature f) tt
-  request-valid y (SetPortFeature n f) i e = port-valid (only h.configured e) n i (input.SetFeature f) tt
-  request-valid y (ClearTTBuffer k) i e = translator-valid _ (translating.clear-valid h.translator v.translator (keyed y k))
-  request-valid y ResetTT i e = translator-valid _ (translating.reset-valid h.translator v.translator y)
+  request_valid : (y : Lane) (r : Request) → InRange h.identity.ports r → (h.configured || served_always r) ≡ true → ValidHub (by_request h y r).next
+  request_valid y (Wrong f) i e = v
+  request_valid y (SetConfiguration on) i e = configured_valid on
+  request_valid y GetConfiguration i e = v
+  request_valid y (GetHubDescriptor n) i e = v
+  request_valid y GetHubStatus i e = v
+  request_valid y (GetPortStatus n) i e = v
+  request_valid y ClearHubFeature i e = v
+  request_valid y (ClearPortFeature n f) i e = port_valid (only h.configured e) n i (input.ClearFeature f) tt
+  request_valid y (SetPortFeature n f) i e = port_valid (only h.configured e) n i (input.SetFeature f) tt
+  request_valid y (ClearTTBuffer k) i e = translator_valid _ (translating.clear_valid h.translator v.translator (keyed y k))
+  request_valid y ResetTT i e = translator_valid _ (translating.reset_valid h.translator v.translator y)
 
-  requested-valid : (y : Lane) (r : Request) → InRange h.identity.ports r → ValidHub (requested h y r).next
+  requested_valid : (y : Lane) (r : Request) → InRange h.identity.ports r → ValidHub (requested h y r).next
   unfolding requested
-  requested-valid y r i = go (h.configured || served_always r) refl
+  requested_valid y r i = go (h.configured || served_always r) refl
     where
       go : (b : Bool) → (h.configured || served_always r) ≡ b → ValidHub (cond b (by_request h y r) (refuse 2 h)).next
-      go true e = request-valid y r i e
+      go true e = request_valid y r i e
       go false e = v
 
   -- ---- the calls
 
-  polled-valid : ValidHub (polled h).next
+  polled_valid : ValidHub (polled h).next
   unfolding polled
-  polled-valid =
+  polled_valid =
       let b = bitmap_of h.identity.ports h.ports in
       elim (eqb b 0) as (λ x. ValidHub (cond x (refuse 3 h) (gives h (b ∷ []))).next) [
         | true ↦ v
         | false ↦ v
       ]
 
-  ticked-valid : ValidHub (ticked_hub h)
+  ticked_valid : ValidHub (ticked_hub h)
   unfolding ticked_hub
-  ticked-valid = go h.configured refl
+  ticked_valid = go h.configured refl
     where
       go : (b : Bool) → h.configured ≡ b → ValidHub (cond b (with_ports h (swept sweep.Tick h.identity.ports h.ports)) h)
       go true e =
           made_of h.configured _ h.translator
-          (swept-valid h.identity.ports h.configured h.ports (ports-of h v) (most-of h v) sweep.Tick h.configured
-          (λ p t. port-claims.timer-kept p input.Tick t) (λ p c. stays-configured p input.Tick tt (c ∙ ap not e) ∙ ap not (sym e)))
+          (swept_valid h.identity.ports h.configured h.ports (ports_of_lem h v) (most_of h v) sweep.Tick h.configured
+          (λ p t. port_claims_lem.timer_kept p input.Tick t) (λ p c. stays_configured p input.Tick tt (c ∙ ap not e) ∙ ap not (sym e)))
           v.translator
       go false e = v
 
-  reset-valid : ValidHub (reset_hub h)
+  reset_valid : ValidHub (reset_hub h)
   unfolding reset_hub
-  reset-valid = made_of false new_ports (emptied h.translator) (new-ports h.identity.ports) empty-valid
+  reset_valid = made_of false new_ports (emptied h.translator) (new_ports_lem h.identity.ports) empty_valid
 
 -- what answer a complete-split or a launch gives doesn't matter to the hub
 pub completed-next : (g : Hub) (a : CompleteAnswer) (p : Payload) → (completed_by g a p).next ≡ g
@@ -166,41 +166,41 @@ launched-next g Occupied p = refl
 launched-next g (Launches s) p = refl
 
 module _ (h : Hub) (v : ValidHub h) where
-  served-valid : (c : Call) → within h c ≡ true → fitting h c ≡ true → ValidHub (served h c).next
+  served_valid : (c : Call) → within h c ≡ true → fitting h c ≡ true → ValidHub (served h c).next
   unfolding within fitting served
-  served-valid (Control z s room) w f = requested-valid h v (lane_from z) (request_of h.identity.ports s) (request-claims.in-range h.identity.ports s)
-  served-valid (Poll z room) w f = polled-valid h v
-  served-valid (Start z p t l g a e b) w f = translator-valid h v _ (translating.start-valid h.translator v.translator (split_from z p t l g a e) b)
-  served-valid (Complete z a e d room) w f =
+  served_valid (Control z s room) w f = requested_valid h v (lane_from z) (request_of h.identity.ports s) (request_claims_lem.in_range h.identity.ports s)
+  served_valid (Poll z room) w f = polled_valid h v
+  served_valid (Start z p t l g a e b) w f = translator_valid h v _ (translating.start_valid h.translator v.translator (split_from z p t l g a e) b)
+  served_valid (Complete z a e d room) w f =
       let o = complete_split h.translator (key_from z a e d) in
       subst ValidHub (sym (completed-next (with_translator h o.next) o.answer o.payload))
-      (translator-valid h v _ (translating.complete-valid h.translator v.translator (key_from z a e d)))
-  served-valid (Launch room) w f =
+      (translator_valid h v _ (translating.complete_valid h.translator v.translator (key_from z a e d)))
+  served_valid (Launch room) w f =
       let o = launch h.translator in
       subst ValidHub (sym (launched-next (with_translator h o.next) o.answer o.payload))
-      (translator-valid h v _ (translating.launch-valid h.translator v.translator))
-  served-valid (Deliver r b) w f = translator-valid h v _ (translating.deliver-valid h.translator v.translator (result_from r) b)
-  served-valid (Event e n) w f =
+      (translator_valid h v _ (translating.launch_valid h.translator v.translator))
+  served_valid (Deliver r b) w f = translator_valid h v _ (translating.deliver_valid h.translator v.translator (result_from r) b)
+  served_valid (Event e n) w f =
       let m : PortNumber = record { 0 = n } in
       let named = right (is_event e) (port_named h.identity.ports n) w in
-      port-valid h v (left h.configured (not (eqb (line_event (port_at h.ports m) (event_from e)).number 8)) f) m
+      port_valid h v (left h.configured (not (eqb (line_event (port_at h.ports m) (event_from e)).number 8)) f) m
       (leb-true 1 n (left (leb 1 n) (leb n h.identity.ports) named), leb-true n h.identity.ports (right (leb 1 n) (leb n h.identity.ports) named))
       (input.Event (event_from e)) tt
-  served-valid Tick w f = ticked-valid h v
-  served-valid BusReset w f = reset-valid h v
+  served_valid Tick w f = ticked_valid h v
+  served_valid BusReset w f = reset_valid h v
 
-  pub step-valid : (c : Call) → ValidHub (step h c).next
-  step-valid c = by-step h c (λ o. ValidHub o.next) (λ n. v) (served-valid c)
+  pub step_valid : (c : Call) → ValidHub (step h c).next
+  step_valid c = by_step h c (λ o. ValidHub o.next) (λ n. v) (served_valid c)
 
-pub new-valid : (n b g c r : ℕ) → new_fits n b g c r ≡ true → ValidHub (hub_of n b g c r)
-new-valid n b g c r e =
+pub new_valid : (n b g c r : ℕ) → new_fits n b g c r ≡ true → ValidHub (hub_of n b g c r)
+new_valid n b g c r e =
     let x = fits n b g c r e in
-    let p = new-ports n in
+    let p = new_ports_lem n in
     record {
       numbers = e;
       seven = p.seven;
       timers = p.timers;
       spare = p.spare;
       configuration = p.configuration;
-      translator = translating.new-valid b x.buffers-least x.buffers-most;
+      translator = translating.new_valid b x.buffers_least x.buffers_most;
     }

@@ -23,17 +23,17 @@ lane_of BusReset = none
 
 pub record HubClaims : Type 0 where
   -- no hub is made exactly if a number is bad
-  pub new-refused : (n b g c r : ℕ) → (new_fits n b g c r ≡ false) ↔ NewOutside n b g c r
+  pub new_refused : (n b g c r : ℕ) → (new_fits n b g c r ≡ false) ↔ NewOutside n b g c r
   -- a new hub is valid, and every call leaves a valid hub valid
-  pub new-valid : (n b g c r : ℕ) → new_fits n b g c r ≡ true → ValidHub (hub_of n b g c r)
-  pub step-valid : (h : Hub) → ValidHub h → (c : Call) → ValidHub (step h c).next
+  pub new_valid : (n b g c r : ℕ) → new_fits n b g c r ≡ true → ValidHub (hub_of n b g c r)
+  pub step_valid : (h : Hub) → ValidHub h → (c : Call) → ValidHub (step h c).next
   -- a call answered 2 to 8 leaves the hub as it was and gives its number alone, with no bytes
-  pub refused-same : (h : Hub) (c : Call) → is_refusal (step h c).answer.number ≡ true → step h c ≡ refuse (step h c).answer.number h
+  pub refused_same : (h : Hub) (c : Call) → is_refusal (step h c).answer.number ≡ true → step h c ≡ refuse (step h c).answer.number h
   -- no call changes what the hub was made from
-  pub identity-kept : (h : Hub) (c : Call) → (step h c).next.identity ≡ h.identity
-  pub buffers-kept : (h : Hub) (c : Call) → (step h c).next.translator.count ≡ h.translator.count
+  pub identity_kept : (h : Hub) (c : Call) → (step h c).next.identity ≡ h.identity
+  pub buffers_kept : (h : Hub) (c : Call) → (step h c).next.translator.count ≡ h.translator.count
   -- a lane outside 0 and 1 is 6, whatever else is wrong with the call
-  pub no-such-lane : (h : Hub) (c : Call) (z : ℕ) → lane_of c ≡ some z → 2 ≤ z → step h c ≡ refuse 6 h
+  pub no_such_lane_lem : (h : Hub) (c : Call) (z : ℕ) → lane_of c ≡ some z → 2 ≤ z → step h c ≡ refuse 6 h
   -- only data has bytes, and they fit in a reply space of 64
-  pub bytes-of-data : (h : Hub) (c : Call) → ¬ ((step h c).answer.number ≡ 1) → (step h c).answer.bytes ≡ []
+  pub bytes_of_data : (h : Hub) (c : Call) → ¬ ((step h c).answer.number ≡ 1) → (step h c).answer.bytes ≡ []
   pub bytes_fit : (h : Hub) → ValidHub h → (c : Call) → length (step h c).answer.bytes ≤ 64

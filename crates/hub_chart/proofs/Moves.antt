@@ -13,32 +13,32 @@ use Rattle.port.specs.declared.Input.{Input}
 use Rattle.port.specs.declared.Input.TheVariants as input
 use Rattle.port.proofs.States.{by_bool}
 use Rattle.ports.specs.Ports.{port_at, with_port}
-use Rattle.ports.proofs.Laws.{ports-claims}
+use Rattle.ports.proofs.Laws.{ports_claims_lem}
 use Rattle.buffer.specs.declared.Lane.{Lane}
 use Rattle.buffer.specs.declared.Lane.TheVariants.{Zero, One}
 use Rattle.translator.specs.Answers.{lane_number}
 use Rattle.numbers.specs.Named.{is_lane, lane_from, event_from, is_event, port_named}
-use Rattle.numbers.proofs.Laws.{numbers-claims}
+use Rattle.numbers.proofs.Laws.{numbers_claims_lem}
 use Rattle.request.specs.declared.Fault.{Fault}
 use Rattle.request.specs.declared.Request.{Request}
 use Rattle.request.specs.declared.Request.TheVariants.{Wrong, SetConfiguration, GetConfiguration, GetHubDescriptor, GetHubStatus, GetPortStatus, ClearHubFeature, ClearPortFeature, SetPortFeature, ClearTTBuffer, ResetTT}
 use Rattle.request.specs.Setup.{setup_of}
 use Rattle.request.specs.Request.{request_of}
-use Rattle.request.proofs.Claimed.{request-claims}
+use Rattle.request.proofs.Claimed.{request_claims_lem}
 use Rattle.hub.specs.declared.Hub.{Hub}
 use Rattle.hub.specs.Call.{Call, Control, Poll, Start, Complete, Launch, Deliver, Event, Tick, BusReset, Outcome, refuse}
 use Rattle.hub.specs.Requests.{by_request, served_always, requested}
 use Rattle.hub.specs.Checks.{within, has_space, not_silent, fitting, first_refusal}
 use Rattle.hub.specs.Step.{served, step}
-use Rattle.hub.proofs.Order.{by-step}
-use Rattle.hub.proofs.Calls.{polled-stays}
+use Rattle.hub.proofs.Order.{by_step}
+use Rattle.hub.proofs.Calls.{polled_stays}
 use Rattle.hub.proofs.Valid.{completed-next, launched-next}
 use Rattle.hub_chart.specs.HubChart.{Asked, Brings, TwoByteValue, OnlyInputsMove}
 
 -- a lane is 0 or 1
-lane-most : (y : Lane) → lane_number y ≤ 1
-lane-most Zero = omega arith
-lane-most One = omega arith
+lane_most : (y : Lane) → lane_number y ≤ 1
+lane_most Zero = omega arith
+lane_most One = omega arith
 
 -- ---- one call on a hub, at one port
 
@@ -58,7 +58,7 @@ module _ (h : Hub) (m : PortNumber) where
   set_at : {A : Type 0} (k : PortNumber) (p : Port) → (k ≡ m → A) → ¬ (port_at (with_port h.ports k p) m ≡ port_at h.ports m) → A
   set_at {A} k p here moved =
       by_bool (λ b. eqb k.0 m.0 ≡ b → A) (λ e. here (ap (λ (n : ℕ). record { 0 = n }) (eqb-true _ _ e)))
-      (λ e. absurd (moved (ports-claims.others-kept h.ports k m p (λ d. eqb-false _ _ e (sym d)))))
+      (λ e. absurd (moved (ports_claims_lem.others_kept h.ports k m p (λ d. eqb-false _ _ e (sym d)))))
       (eqb k.0 m.0) refl
 
   -- a request that is served: the configuration and the port features move ports
@@ -96,10 +96,10 @@ module _ (h : Hub) (m : PortNumber) where
             setup = s;
             room = room;
             is = refl;
-            two_lanes = rw (numbers-claims.lanes.number-back z l) at (lane-most (lane_from z));
+            two_lanes = rw (numbers_claims_lem.lanes.number_back z l) at (lane_most (lane_from z));
             eight = eqb-true (length s) 8 e;
             space = leb-true 64 room p;
-            asks = (request-claims.exact count s r right two).0 refl;
+            asks = (request_claims_lem.exact count s r right two).0 refl;
           })
       go true true true false e l p = kept refl
       go true true false x e l p = kept refl
@@ -110,20 +110,20 @@ module _ (h : Hub) (m : PortNumber) where
   event : (e n : ℕ) → Told (Event e n) (step h (Event e n))
   unfolding within served
   event e n =
-      by-step h (Event e n) (Told (Event e n)) (λ k. kept refl)
+      by_step h (Event e n) (Told (Event e n)) (λ k. kept refl)
       (λ w f.
-      let back = numbers-claims.events.number-back e ((and-eq-true_iff (is_event e) (port_named count n)).0 w).0 in
+      let back = numbers_claims_lem.events.number_back e ((and-eq-true_iff (is_event e) (port_named count n)).0 w).0 in
       set_at (record { 0 = n }) _ (λ here. (input.Event (event_from e), rw back (ap (λ (k : PortNumber). Event e k.0) here))))
 
   -- a call whose rule keeps the ports
   unmoved : (c : Call) → (served h c).next.ports ≡ h.ports → Told c (step h c)
-  unmoved c e = by-step h c (Told c) (λ k. kept refl) (λ w f. kept e)
+  unmoved c e = by_step h c (Told c) (λ k. kept refl) (λ w f. kept e)
 
   -- whatever the call
   by_call : (c : Call) → TwoByteValue c → Told c (step h c)
   unfolding served
   by_call (Control z s room) two = control z s room two
-  by_call (Poll z room) two = unmoved _ (rw polled-stays)
+  by_call (Poll z room) two = unmoved _ (rw polled_stays)
   by_call (Start z p t f g a e l) two = unmoved _ refl
   by_call (Complete z a e d room) two = unmoved _ (rw completed-next)
   by_call (Launch room) two = unmoved _ (rw launched-next)
@@ -132,6 +132,6 @@ module _ (h : Hub) (m : PortNumber) where
   by_call Tick two = λ moved. (input.Tick, refl)
   by_call BusReset two = λ moved. (input.BusReset, refl)
 
-pub only-inputs-move : OnlyInputsMove step
+pub only_inputs_move_lem : OnlyInputsMove step
 unfolding OnlyInputsMove
-only-inputs-move = by_call
+only_inputs_move_lem = by_call

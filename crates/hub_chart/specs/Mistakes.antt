@@ -29,8 +29,8 @@ poll_clears h BusReset = step h BusReset
 
 pub record HubChartMistakesShutOut : Type 0 where
   -- a port request to an unconfigured hub is done by the port's own rule
-  pub own-rules : ¬ (HubFollows stepped_by)
+  pub own_rules : ¬ (HubFollows stepped_by)
   -- crate `chart`, specs/Mistakes: the right numbers or the right ports alone
-  pub numbers-alone : ¬ (HubFollows numbers_alone)
-  pub ports-alone : ¬ (HubFollows ports_alone)
-  pub poll-clears : ¬ (OnlyInputsMove poll_clears)
+  pub numbers_alone_lem : ¬ (HubFollows numbers_alone)
+  pub ports_alone_lem : ¬ (HubFollows ports_alone)
+  pub poll_clears_lem : ¬ (OnlyInputsMove poll_clears)

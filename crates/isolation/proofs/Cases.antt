@@ -14,20 +14,20 @@ use Rattle.runs.specs.Machine.{after_from}
 use Rattle.isolation.specs.Naming.{naming, struck}
 use Rattle.isolation.specs.Cases.{IsolationCases}
 
-pub isolation-cases : IsolationCases
+pub isolation_cases_lem : IsolationCases
 unfolding new_fits new_hub after_from struck naming port_at with_port front swept bitmap_of polled kind_of checked request_of configured_as requested within has_space not_silent fitting served step
-isolation-cases =
+isolation_cases_lem =
     record {
       named = refl;
       refused = refl;
       in_both = refl;
       translator = refl;
-      no-port-0 = refl;
-      no-port-5 = refl;
+      no_port_0 = refl;
+      no_port_5 = refl;
       high_byte_lem = refl;
       malformed = refl;
-      bit-alone = refl;
+      bit_alone = refl;
       none = refl;
-      two-bits = refl;
-      other-bit = refl;
+      two_bits = refl;
+      other_bit = refl;
     }

@@ -11,28 +11,28 @@ use Rattle.hub.specs.declared.Hub.{Hub}
 use Rattle.hub.specs.Call.{Call}
 use Rattle.hub.specs.Step.{step}
 use Rattle.hub.specs.Valid.{ValidHub}
-use Rattle.hub.proofs.Claimed.{hub-claims}
+use Rattle.hub.proofs.Claimed.{hub_claims_lem}
 use Rattle.runs.specs.Machine.{Machine, Numbers, new_hub_of, rules, after_from}
 use Rattle.runs.specs.Demand2.{reached_by}
 use Rattle.runs.proofs.Reaching.{reached}
 use Rattle.isolation.specs.Naming.{naming, struck}
 use Rattle.isolation.specs.Isolation.{bit_at, SameBut, SameAnswers, Matching, PortIsolation}
 use Rattle.isolation.proofs.Setting.{erased, others_same}
-use Rattle.isolation.proofs.Polls.{bit-of-port, none-set, byte-same}
-use Rattle.isolation.proofs.Steps.{step_same, step-named, poll-same, poll-one}
+use Rattle.isolation.proofs.Polls.{bit_of_port, none_set, byte_same}
+use Rattle.isolation.proofs.Steps.{step_same, step_named, poll_same, poll_one}
 
 -- what the equation of two hubs with port p put back says
 pub all_but : (p : PortNumber) (g h : Hub) → erased p g ≡ erased p h → SameBut p g h
 all_but p g h e =
     record {
-      other-ports = λ m d.
+      other_ports = λ m d.
           let same = agree m d in
           record {
             port = same;
             status = ap status_bytes same;
-            bitmap-bit =
+            bitmap_bit_lem =
                 ap (λ (n : ℕ). bit_at (bitmap_of n g.ports) m.0) (ap (λ (k : Hub). k.identity.ports) e)
-                ∙ byte-same p h.identity.ports g.ports h.ports agree m.0 d;
+                ∙ byte_same p h.identity.ports g.ports h.ports agree m.0 d;
           };
       translator = ap (λ (k : Hub). k.translator) e;
       configured = ap (λ (k : Hub). k.configured) e;
@@ -44,15 +44,15 @@ all_but p g h e =
 
 module _ (n : ℕ) (p : PortNumber) where
   count_kept : (h : Hub) (c : Call) → h.identity.ports ≡ n → (step h c).next.identity.ports ≡ n
-  count_kept h c i = ap (λ k. k.ports) (hub-claims.identity-kept h c) ∙ i
+  count_kept h c i = ap (λ k. k.ports) (hub_claims_lem.identity_kept h c) ∙ i
 
   -- a run leaves what it leaves with the calls that name port p struck out
-  struck-out : (cs : List Call) (g h : Hub) → g.identity.ports ≡ n → erased p g ≡ erased p h
+  struck_out : (cs : List Call) (g h : Hub) → g.identity.ports ≡ n → erased p g ≡ erased p h
       → erased p (after_from rules g cs) ≡ erased p (after_from rules h (struck n p cs))
   unfolding after_from struck
-  struck-out [] g h i e = e
-  struck-out (c ∷ cs) g h i e =
-      go (naming n p c) refl (struck-out cs (step g c).next h (count_kept g c i)) (struck-out cs (step g c).next (step h c).next (count_kept g c i))
+  struck_out [] g h i e = e
+  struck_out (c ∷ cs) g h i e =
+      go (naming n p c) refl (struck_out cs (step g c).next h (count_kept g c i)) (struck_out cs (step g c).next (step h c).next (count_kept g c i))
     where
       left : Hub
       left = after_from rules (step g c).next cs
@@ -64,42 +64,42 @@ module _ (n : ℕ) (p : PortNumber) where
           → (erased p (step g c).next ≡ erased p h → erased p left ≡ erased p (after_from rules h (struck n p cs)))
           → (erased p (step g c).next ≡ erased p (step h c).next → erased p left ≡ erased p (after_from rules (step h c).next (struck n p cs)))
           → erased p left ≡ erased p (after_from rules h (cond b (struck n p cs) (c ∷ struck n p cs)))
-      go true u apart together = apart (step-named p g c (ap (λ (k : ℕ). naming k p c) i ∙ u) ∙ e)
+      go true u apart together = apart (step_named p g c (ap (λ (k : ℕ). naming k p c) i ∙ u) ∙ e)
       go false u apart together = together (step_same p g h e c (ap (λ (k : ℕ). naming k p c) count ∙ u)).0
 
 -- what two such histories leave is the same once port p is put back
-pub reached-same : (p : PortNumber) (m n : Numbers) (cs ds : List Call) → new_hub_of m ≡ new_hub_of n → struck m.ports p cs ≡ struck n.ports p ds
+pub reached_same : (p : PortNumber) (m n : Numbers) (cs ds : List Call) → new_hub_of m ≡ new_hub_of n → struck m.ports p cs ≡ struck n.ports p ds
     → erased p (reached_by m cs) ≡ erased p (reached_by n ds)
-reached-same p m n cs ds e q =
-    struck-out m.ports p cs (new_hub_of m) (new_hub_of n) refl (ap (erased p) e)
-    ∙ (ap (λ (l : List Call). erased p (reached_by n l)) q ∙ sym (struck-out n.ports p ds (new_hub_of n) (new_hub_of n) refl refl))
+reached_same p m n cs ds e q =
+    struck_out m.ports p cs (new_hub_of m) (new_hub_of n) refl (ap (erased p) e)
+    ∙ (ap (λ (l : List Call). erased p (reached_by n l)) q ∙ sym (struck_out n.ports p ds (new_hub_of n) (new_hub_of n) refl refl))
 
 -- what the equation says of answers
-pub answers-same : (p : PortNumber) (g h : Hub) → ValidHub g → ValidHub h → erased p g ≡ erased p h → SameAnswers rules (λ k. k) p g h
-answers-same p g h v w e =
+pub answers_same : (p : PortNumber) (g h : Hub) → ValidHub g → ValidHub h → erased p g ≡ erased p h → SameAnswers rules (λ k. k) p g h
+answers_same p g h v w e =
     record {
       calls = λ x y r u d. (step_same p g h e x (ap (λ (k : Hub). naming k.identity.ports p x) (sym e) ∙ u)).1 d ∙ ap (λ (c : Call). (step h c).answer) r;
-      polls = λ x y z room r s. rw (r, s) (poll-same p g h e z room);
-      one-or-none = λ x y z room r s.
+      polls = λ x y z room r s. rw (r, s) (poll_same p g h e z room);
+      one_or_none = λ x y z room r s.
           rw (r, s)
           (λ k.
-          let both = poll-one p g h e z room k in
-          let none = none-set h w in (
-            λ u. (sym (bit-of-port g v p) ∙ (both.0 u).0, none.0 (both.0 u).1),
-            λ u. both.1 (bit-of-port g v p ∙ u.0, none.1 u.1),
+          let both = poll_one p g h e z room k in
+          let none = none_set h w in (
+            λ u. (sym (bit_of_port g v p) ∙ (both.0 u).0, none.0 (both.0 u).1),
+            λ u. both.1 (bit_of_port g v p ∙ u.0, none.1 u.1),
           ));
     }
 
-pub port-isolation : PortIsolation rules (λ h. h)
-port-isolation =
+pub port_isolation_lem : PortIsolation rules (λ h. h)
+port_isolation_lem =
     record {
       hubs = λ p m n cs ds t. all_but p (reached_by m cs) (reached_by n ds) (same p m n cs ds t);
-      answers = λ p m n cs ds t. answers-same p (reached_by m cs) (reached_by n ds) (reached m cs) (reached n ds) (same p m n cs ds t);
+      answers = λ p m n cs ds t. answers_same p (reached_by m cs) (reached_by n ds) (reached m cs) (reached n ds) (same p m n cs ds t);
     }
   where
     same : (p : PortNumber) (m n : Numbers) (cs ds : List Call) → Matching rules p m n cs ds → erased p (reached_by m cs) ≡ erased p (reached_by n ds)
     same p m n cs ds t =
-        reached-same p m n cs ds t.new-hubs (ap (struck m.ports p) (sym (map-id cs)) ∙ t.left ∙ ap (struck n.ports p) (map-id ds))
+        reached_same p m n cs ds t.new_hubs (ap (struck m.ports p) (sym (map-id cs)) ∙ t.left ∙ ap (struck n.ports p) (map-id ds))
 
 -- what holds of the answers of two hubs holds of two states of any machine that hold them and answer as the rules do
 module _ (w : Machine) (hub : w.State → Hub) (p : PortNumber) (s t : w.State) (g h : Hub) (holds-g : hub s ≡ g) (holds-h : hub t ≡ h)
@@ -109,5 +109,5 @@ module _ (w : Machine) (hub : w.State → Hub) (p : PortNumber) (s t : w.State) 
       record {
         calls = λ x y r. rw (holds-g, answer-g x, answer-h y) (u.calls (w.call x) (w.call y) r);
         polls = λ x y z room i j. rw (answer-g x, answer-h y) (u.polls (w.call x) (w.call y) z room i j);
-        one-or-none = λ x y z room i j. rw (holds-g, holds-h, answer-g x, answer-h y) (u.one-or-none (w.call x) (w.call y) z room i j);
+        one_or_none = λ x y z room i j. rw (holds-g, holds-h, answer-g x, answer-h y) (u.one_or_none (w.call x) (w.call y) z room i j);
       }

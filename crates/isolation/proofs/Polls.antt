@@ -14,25 +14,25 @@ use Rattle.port.specs.Reaction.{new_port}
 use Rattle.port.specs.Status.{byte_of, has_change}
 use Rattle.ports.specs.Ports.{port_at}
 use Rattle.ports.specs.Bitmap.{port_bit, bitmap_bits, bitmap_of}
-use Rattle.ports.proofs.Laws.{bitmap-bits, by_bit, all-zero, none-of-0, ports-claims}
+use Rattle.ports.proofs.Laws.{bitmap_bits_lem, by_bit, all_zero, none_of_0, ports_claims_lem}
 use Rattle.hub.specs.declared.Hub.{Hub}
 use Rattle.hub.specs.Call.{Answer, plain_answer}
 use Rattle.hub.specs.Valid.{port_indexed, ValidHub}
-use Rattle.isolation.specs.Isolation.{bit_at, bitmap_bit, poll_gives, SamePoll, same, bytes, byte-or-none, none-or-byte}
+use Rattle.isolation.specs.Isolation.{bit_at, bitmap_bit, poll_gives, SamePoll, same, bytes, byte_or_none, none_or_byte}
 
 -- a number with one bit alone
 alone : (bs : List Bool) (p : ℕ) → ((i : ℕ) → ¬ (i ≡ p) → get_or bs i false ≡ false) → ¬ (byte_of bs ≡ 0) → byte_of bs ≡ 2 ^ p
 alone [] p h z = absurd (z refl)
-alone (true ∷ bs) zero h z = rw (all-zero bs (λ i. h (suc i) (λ e. omega (arith, e))))
-alone (false ∷ bs) zero h z = absurd (z (rw (all-zero bs (λ i. h (suc i) (λ e. omega (arith, e))))))
+alone (true ∷ bs) zero h z = rw (all_zero bs (λ i. h (suc i) (λ e. omega (arith, e))))
+alone (false ∷ bs) zero h z = absurd (z (rw (all_zero bs (λ i. h (suc i) (λ e. omega (arith, e))))))
 alone (true ∷ bs) (suc p) h z = absurd (true≢false (h 0 (λ e. omega (arith, e))))
 alone (false ∷ bs) (suc p) h z =
     let r : byte_of bs ≡ 2 ^ p = alone bs p (λ i d. h (suc i) (λ e. d (omega (arith, e)))) (λ e. z (rw e)) in
     rw r (omega arith)
 
 -- all bits but one are zero, and that one too
-no-bit : (bs : List Bool) (p : ℕ) → ((i : ℕ) → ¬ (i ≡ p) → get_or bs i false ≡ false) → get_or bs p false ≡ false → byte_of bs ≡ 0
-no-bit bs p h z = all-zero bs (λ i. go i (eqb i p) refl)
+no_bit : (bs : List Bool) (p : ℕ) → ((i : ℕ) → ¬ (i ≡ p) → get_or bs i false ≡ false) → get_or bs p false ≡ false → byte_of bs ≡ 0
+no_bit bs p h z = all_zero bs (λ i. go i (eqb i p) refl)
   where
     go : (i : ℕ) (b : Bool) → eqb i p ≡ b → get_or bs i false ≡ false
     go i true e = ap (λ (k : ℕ). get_or bs k false) (eqb-true i p e) ∙ z
@@ -43,16 +43,16 @@ abbrev pub given : ℕ → Answer
 given b = cond (eqb b 0) (plain_answer 3) (poll_gives b)
 
 module _ (n : ℕ) (ps : List Port) where
-  bit-read : (i : ℕ) → bit_at (bitmap_of n ps) i ≡ get_or (bitmap_bits n ps) i false
-  bit-read i = ap (λ (bs : List Bool). get_or bs i false) (bitmap-bits n ps)
+  bit_read : (i : ℕ) → bit_at (bitmap_of n ps) i ≡ get_or (bitmap_bits n ps) i false
+  bit_read i = ap (λ (bs : List Bool). get_or bs i false) (bitmap_bits_lem n ps)
 
   bits_none : bitmap_of n ps ≡ 0 → (i : ℕ) → get_or (bitmap_bits n ps) i false ≡ false
-  bits_none e i = sym (bit-read i) ∙ ap (λ (k : ℕ). bit_at k i) e ∙ none-of-0 i
+  bits_none e i = sym (bit_read i) ∙ ap (λ (k : ℕ). bit_at k i) e ∙ none_of_0 i
 
 -- a bitmap without bits
-zero-bitmap : (n : ℕ) (ps : List Port) → ((i : ℕ) → get_or (bitmap_bits n ps) i false ≡ false) → bitmap_of n ps ≡ 0
+zero_bitmap : (n : ℕ) (ps : List Port) → ((i : ℕ) → get_or (bitmap_bits n ps) i false ≡ false) → bitmap_of n ps ≡ 0
 unfolding bitmap_of
-zero-bitmap n ps k = all-zero (bitmap_bits n ps) k
+zero_bitmap n ps k = all_zero (bitmap_bits n ps) k
 
 -- there is no port 8
 beyond : (ps : List Port) (k : ℕ) → 8 ≤ k → port_at ps (record { 0 = k }) ≡ new_port
@@ -70,9 +70,9 @@ module _ (h : Hub) (v : ValidHub h) where
           let above : h.identity.ports < suc i = leb-false (suc i) h.identity.ports e in
           ap (λ (x : Port). has_change x.changes) (sym (v.spare i (omega (arith, above))))
 
-  pub bit-of-port : (p : PortNumber) → bitmap_bit h p ≡ has_change (port_at h.ports p).changes
+  pub bit_of_port : (p : PortNumber) → bitmap_bit h p ≡ has_change (port_at h.ports p).changes
   unfolding port_at
-  bit-of-port p = bit-read h.identity.ports h.ports p.0 ∙ by_number p.0
+  bit_of_port p = bit_read h.identity.ports h.ports p.0 ∙ by_number p.0
     where
       by_number : (i : ℕ) → get_or (bitmap_bits h.identity.ports h.ports) i false ≡ has_change (port_at h.ports (record { 0 = i })).changes
       by_number =
@@ -81,63 +81,63 @@ module _ (h : Hub) (v : ValidHub h) where
           (λ i. ap (λ (x : Port). has_change x.changes) (sym (beyond h.ports (suc (suc (suc (suc (suc (suc (suc (suc i)))))))) (omega arith))))
 
   -- nothing to give: no port has a change bit
-  pub none-set : (bitmap_of h.identity.ports h.ports ≡ 0) ↔ ((m : PortNumber) → has_change (port_at h.ports m).changes ≡ false)
-  none-set = (
-    λ e m. sym (bit-of-port m) ∙ ap (λ (k : ℕ). bit_at k m.0) e ∙ none-of-0 m.0,
-    λ k. zero-bitmap n h.ports (λ i. sym (bit-read n h.ports i) ∙ bit-of-port (record { 0 = i }) ∙ k (record { 0 = i })),
+  pub none_set : (bitmap_of h.identity.ports h.ports ≡ 0) ↔ ((m : PortNumber) → has_change (port_at h.ports m).changes ≡ false)
+  none_set = (
+    λ e m. sym (bit_of_port m) ∙ ap (λ (k : ℕ). bit_at k m.0) e ∙ none_of_0 m.0,
+    λ k. zero_bitmap n h.ports (λ i. sym (bit_read n h.ports i) ∙ bit_of_port (record { 0 = i }) ∙ k (record { 0 = i })),
   )
     where
       n : ℕ
       n = h.identity.ports
 
 module _ (p : PortNumber) (n : ℕ) (qs ps : List Port) (agree : (m : PortNumber) → ¬ (m.0 ≡ p.0) → port_at qs m ≡ port_at ps m) where
-  bit-same : (m : ℕ) → ¬ (m ≡ p.0) → port_bit n qs m ≡ port_bit n ps m
-  bit-same m d = ap (λ (x : Port). leb m n && has_change x.changes) (agree (record { 0 = m }) d)
+  bit_same : (m : ℕ) → ¬ (m ≡ p.0) → port_bit n qs m ≡ port_bit n ps m
+  bit_same m d = ap (λ (x : Port). leb m n && has_change x.changes) (agree (record { 0 = m }) d)
 
-  bits-same : (i : ℕ) → ¬ (i ≡ p.0) → get_or (bitmap_bits n qs) i false ≡ get_or (bitmap_bits n ps) i false
-  bits-same =
+  bits_same : (i : ℕ) → ¬ (i ≡ p.0) → get_or (bitmap_bits n qs) i false ≡ get_or (bitmap_bits n ps) i false
+  bits_same =
       by_bit (λ i. ¬ (i ≡ p.0) → get_or (bitmap_bits n qs) i false ≡ get_or (bitmap_bits n ps) i false) (λ d. refl)
-      (bit-same 1) (bit-same 2) (bit-same 3) (bit-same 4) (bit-same 5) (bit-same 6) (bit-same 7) (λ i d. refl)
+      (bit_same 1) (bit_same 2) (bit_same 3) (bit_same 4) (bit_same 5) (bit_same 6) (bit_same 7) (λ i d. refl)
 
-  pub byte-same : (i : ℕ) → ¬ (i ≡ p.0) → bit_at (bitmap_of n qs) i ≡ bit_at (bitmap_of n ps) i
-  byte-same i d = bit-read n qs i ∙ bits-same i d ∙ sym (bit-read n ps i)
+  pub byte_same : (i : ℕ) → ¬ (i ≡ p.0) → bit_at (bitmap_of n qs) i ≡ bit_at (bitmap_of n ps) i
+  byte_same i d = bit_read n qs i ∙ bits_same i d ∙ sym (bit_read n ps i)
 
   -- where the one has no bit, the other has none but p's
-  others-none : bitmap_of n ps ≡ 0 → (i : ℕ) → ¬ (i ≡ p.0) → get_or (bitmap_bits n qs) i false ≡ false
-  others-none e i d = bits-same i d ∙ bits_none n ps e i
+  others_none : bitmap_of n ps ≡ 0 → (i : ℕ) → ¬ (i ≡ p.0) → get_or (bitmap_bits n qs) i false ≡ false
+  others_none e i d = bits_same i d ∙ bits_none n ps e i
 
-  alone-in : bitmap_of n ps ≡ 0 → ¬ (bitmap_of n qs ≡ 0) → bitmap_of n qs ≡ 2 ^ p.0
+  alone_in : bitmap_of n ps ≡ 0 → ¬ (bitmap_of n qs ≡ 0) → bitmap_of n qs ≡ 2 ^ p.0
   unfolding bitmap_of
-  alone-in e z = alone (bitmap_bits n qs) p.0 (others-none e) z
+  alone_in e z = alone (bitmap_bits n qs) p.0 (others_none e) z
 
   -- .. and has p's, unless it has none
-  bit-set : bitmap_of n ps ≡ 0 → ¬ (bitmap_of n qs ≡ 0) → bit_at (bitmap_of n qs) p.0 ≡ true
+  bit_set : bitmap_of n ps ≡ 0 → ¬ (bitmap_of n qs ≡ 0) → bit_at (bitmap_of n qs) p.0 ≡ true
   unfolding bitmap_of
-  bit-set e z = go (get_or (bitmap_bits n qs) p.0 false) refl
+  bit_set e z = go (get_or (bitmap_bits n qs) p.0 false) refl
     where
       go : (x : Bool) → get_or (bitmap_bits n qs) p.0 false ≡ x → bit_at (bitmap_of n qs) p.0 ≡ true
-      go true u = bit-read n qs p.0 ∙ u
-      go false u = absurd (z (no-bit (bitmap_bits n qs) p.0 (others-none e) u))
+      go true u = bit_read n qs p.0 ∙ u
+      go false u = absurd (z (no_bit (bitmap_bits n qs) p.0 (others_none e) u))
 
-  pub given-one : (((given (bitmap_of n qs)).number ≡ 1) × ((given (bitmap_of n ps)).number ≡ 3)) ↔ ((bit_at (bitmap_of n qs) p.0 ≡ true) × (bitmap_of n ps ≡ 0))
-  given-one = go (eqb (bitmap_of n ps) 0) refl (eqb (bitmap_of n qs) 0) refl
+  pub given_one : (((given (bitmap_of n qs)).number ≡ 1) × ((given (bitmap_of n ps)).number ≡ 3)) ↔ ((bit_at (bitmap_of n qs) p.0 ≡ true) × (bitmap_of n ps ≡ 0))
+  given_one = go (eqb (bitmap_of n ps) 0) refl (eqb (bitmap_of n qs) 0) refl
     where
       none : bitmap_of n qs ≡ 0 → bit_at (bitmap_of n qs) p.0 ≡ false
-      none e = ap (λ (k : ℕ). bit_at k p.0) e ∙ none-of-0 p.0
+      none e = ap (λ (k : ℕ). bit_at k p.0) e ∙ none_of_0 p.0
 
       go : (x : Bool) → eqb (bitmap_of n ps) 0 ≡ x → (y : Bool) → eqb (bitmap_of n qs) 0 ≡ y
           → (((cond y (plain_answer 3) (poll_gives (bitmap_of n qs))).number ≡ 1) × ((cond x (plain_answer 3) (poll_gives (bitmap_of n ps))).number ≡ 3))
           ↔ ((bit_at (bitmap_of n qs) p.0 ≡ true) × (bitmap_of n ps ≡ 0))
       go true u true v = (λ k. absurd (omega (arith, k.0)), λ k. absurd (true≢false (sym k.0 ∙ none (eqb-true (bitmap_of n qs) 0 v))))
       go true u false v = (
-        λ k. (bit-set (eqb-true (bitmap_of n ps) 0 u) (eqb-false (bitmap_of n qs) 0 v), eqb-true (bitmap_of n ps) 0 u),
+        λ k. (bit_set (eqb-true (bitmap_of n ps) 0 u) (eqb-false (bitmap_of n qs) 0 v), eqb-true (bitmap_of n ps) 0 u),
         λ k. (refl, refl),
       )
       go false u y v = (λ k. absurd (omega (arith, k.1)), λ k. absurd (eqb-false (bitmap_of n ps) 0 u k.1))
 
 module _ (p : PortNumber) (n : ℕ) (qs ps : List Port) (agree : (m : PortNumber) → ¬ (m.0 ≡ p.0) → port_at qs m ≡ port_at ps m) where
-  pub given-same : SamePoll p (given (bitmap_of n qs)) (given (bitmap_of n ps))
-  given-same = go (eqb b 0) refl (eqb c 0) refl
+  pub given_same : SamePoll p (given (bitmap_of n qs)) (given (bitmap_of n ps))
+  given_same = go (eqb b 0) refl (eqb c 0) refl
     where
       b : ℕ
       b = bitmap_of n qs
@@ -149,7 +149,7 @@ module _ (p : PortNumber) (n : ℕ) (qs ps : List Port) (agree : (m : PortNumber
       go true u true v = same (plain_answer 3)
       go true u false v =
           subst (λ (k : ℕ). SamePoll p (plain_answer 3) (poll_gives k))
-          (sym (alone-in p n ps qs (λ m d. sym (agree m d)) (eqb-true b 0 u) (eqb-false c 0 v))) none-or-byte
+          (sym (alone_in p n ps qs (λ m d. sym (agree m d)) (eqb-true b 0 u) (eqb-false c 0 v))) none_or_byte
       go false u true v =
-          subst (λ (k : ℕ). SamePoll p (poll_gives k) (plain_answer 3)) (sym (alone-in p n qs ps agree (eqb-true c 0 v) (eqb-false b 0 u))) byte-or-none
-      go false u false v = bytes b c (ports-claims.bitmap-byte n qs) (ports-claims.bitmap-byte n ps) (byte-same p n qs ps agree)
+          subst (λ (k : ℕ). SamePoll p (poll_gives k) (plain_answer 3)) (sym (alone_in p n qs ps agree (eqb-true c 0 v) (eqb-false b 0 u))) byte_or_none
+      go false u false v = bytes b c (ports_claims_lem.bitmap_byte n qs) (ports_claims_lem.bitmap_byte n ps) (byte_same p n qs ps agree)

@@ -47,14 +47,14 @@ pub record IsolationCases : Type 0 where
   -- ClearTTBuffer and ResetTT, which have wIndex 1
   pub translator : left_without 1 (clear_from 0 ∷ reset_from 0 ∷ []) ≡ clear_from 0 ∷ reset_from 0 ∷ []
   -- a bad port number names no port: 0, 5 of four, and 0102, whose low byte is 2
-  pub no-port-0 : left_without 0 (set_power 0 ∷ attach_full 0 ∷ []) ≡ set_power 0 ∷ attach_full 0 ∷ []
-  pub no-port-5 : left_without 5 (set_power 5 ∷ attach_full 5 ∷ []) ≡ set_power 5 ∷ attach_full 5 ∷ []
+  pub no_port_0 : left_without 0 (set_power 0 ∷ attach_full 0 ∷ []) ≡ set_power 0 ∷ attach_full 0 ∷ []
+  pub no_port_5 : left_without 5 (set_power 5 ∷ attach_full 5 ∷ []) ≡ set_power 5 ∷ attach_full 5 ∷ []
   pub high_byte_lem : left_without 2 (high_byte ∷ attach_full 0x0102 ∷ []) ≡ high_byte ∷ attach_full 0x0102 ∷ []
   -- nor does a request that isn't well formed: feature 3 can't be set
   pub malformed : left_without 2 (set_port_feature 3 2 ∷ wrong_length ∷ seven_bytes ∷ []) ≡ set_port_feature 3 2 ∷ wrong_length ∷ seven_bytes ∷ []
   -- a device at port 2: the poll is 1 with bit 2 alone; without it, 3
-  pub bit-alone : poll_after (set_configuration1 ∷ device_at 2 []) ≡ bytes (0x04 ∷ [])
+  pub bit_alone : poll_after (set_configuration1 ∷ device_at 2 []) ≡ bytes (0x04 ∷ [])
   pub none : poll_after (set_configuration1 ∷ []) ≡ plain_answer 3
   -- one at port 3 too: the byte differs in bit 2
-  pub two-bits : poll_after (set_configuration1 ∷ device_at 2 (device_at 3 [])) ≡ bytes (0x0C ∷ [])
-  pub other-bit : poll_after (set_configuration1 ∷ device_at 3 []) ≡ bytes (0x08 ∷ [])
+  pub two_bits : poll_after (set_configuration1 ∷ device_at 2 (device_at 3 [])) ≡ bytes (0x0C ∷ [])
+  pub other_bit : poll_after (set_configuration1 ∷ device_at 3 []) ≡ bytes (0x08 ∷ [])

@@ -102,12 +102,12 @@ SameAnswersOf q = AtMatchingPoints (altered_ports q) (SameAnswers (altered_ports
 
 -- each breaks the half of the claim that is to shut it out
 pub record DisturbancesShutOut : Type 0 where
-  pub powers-all-off : ¬ (AtMatchingPoints (altered_ports powers_all_off) SameBut)
-  pub empties-translator : ¬ (AtMatchingPoints (altered_ports empties_translator) SameBut)
-  pub stops-hub : ¬ (AtMatchingPoints (altered_ports stops_hub) SameBut)
-  pub takes-timers-back : ¬ (AtMatchingPoints (altered_ports takes_timers_back) SameBut)
+  pub powers_all_off_lem : ¬ (AtMatchingPoints (altered_ports powers_all_off) SameBut)
+  pub empties_translator_lem : ¬ (AtMatchingPoints (altered_ports empties_translator) SameBut)
+  pub stops_hub_lem : ¬ (AtMatchingPoints (altered_ports stops_hub) SameBut)
+  pub takes_timers_back_lem : ¬ (AtMatchingPoints (altered_ports takes_timers_back) SameBut)
   pub reads_first_lem : ¬ (SameAnswersOf reads_first)
-  pub polls-all : ¬ (SameAnswersOf polls_all)
-  pub hides-others : ¬ (SameAnswersOf hides_others)
-  pub hides-first : ¬ (SameAnswersOf hides_first)
-  pub tells-powered : ¬ (SameAnswersOf tells_powered)
+  pub polls_all_lem : ¬ (SameAnswersOf polls_all)
+  pub hides_others_lem : ¬ (SameAnswersOf hides_others)
+  pub hides_first_lem : ¬ (SameAnswersOf hides_first)
+  pub tells_powered_lem : ¬ (SameAnswersOf tells_powered)

@@ -23,11 +23,11 @@ pub record SamePort (m : PortNumber) (g h : Hub) : Type 0 where
   -- state with its timer and speed, over-current level, change bits
   pub port : port_at g.ports m ≡ port_at h.ports m
   pub status : status_bytes (port_at g.ports m) ≡ status_bytes (port_at h.ports m)
-  pub bitmap-bit : bitmap_bit g m ≡ bitmap_bit h m
+  pub bitmap_bit_lem : bitmap_bit g m ≡ bitmap_bit h m
 
 -- all but port p is the same
 pub record SameBut (p : PortNumber) (g h : Hub) : Type 0 where
-  pub other-ports : (m : PortNumber) → ¬ (m.0 ≡ p.0) → SamePort m g h
+  pub other_ports : (m : PortNumber) → ¬ (m.0 ≡ p.0) → SamePort m g h
   pub translator : g.translator ≡ h.translator
   pub configured : g.configured ≡ h.configured
   pub identity : g.identity ≡ h.identity
@@ -40,8 +40,8 @@ pub data SamePoll (p : PortNumber) : Answer → Answer → Type 0 where
   same : (a : Answer) → SamePoll p a a
   bytes : (b c : ℕ) → b < 256 → c < 256 → ((i : ℕ) → ¬ (i ≡ p.0) → bit_at b i ≡ bit_at c i) → SamePoll p (poll_gives b) (poll_gives c)
   -- bit p and no other
-  byte-or-none : SamePoll p (poll_gives (2 ^ p.0)) (plain_answer 3)
-  none-or-byte : SamePoll p (plain_answer 3) (poll_gives (2 ^ p.0))
+  byte_or_none : SamePoll p (poll_gives (2 ^ p.0)) (plain_answer 3)
+  none_or_byte : SamePoll p (plain_answer 3) (poll_gives (2 ^ p.0))
 
 -- A call that is in both, where the two histories before it left s and t, has the same answer,
 pub record SameAnswers (w : Machine) (hub : w.State → Hub) (p : PortNumber) (s t : w.State) : Type 0 where
@@ -50,14 +50,14 @@ pub record SameAnswers (w : Machine) (hub : w.State → Hub) (p : PortNumber) (s
   -- but for the poll, whose byte may differ in bit p alone.
   pub polls : (x y : w.Asked) (z room : ℕ) → w.call x ≡ Poll z room → w.call y ≡ Poll z room → SamePoll p (w.answer s x) (w.answer t y)
   -- Where it is 1 or 3, it is 1 in the one and 3 in the other exactly if port p has a change bit in the one and no port has any in the other.
-  pub one-or-none : (x y : w.Asked) (z room : ℕ) → w.call x ≡ Poll z room → w.call y ≡ Poll z room
+  pub one_or_none : (x y : w.Asked) (z room : ℕ) → w.call x ≡ Poll z room → w.call y ≡ Poll z room
       → ((w.answer t y).number ≡ 1) ⊎ ((w.answer t y).number ≡ 3)
       → (((w.answer s x).number ≡ 1) × ((w.answer t y).number ≡ 3))
       ↔ ((has_change (port_at (hub s).ports p).changes ≡ true) × ((m : PortNumber) → has_change (port_at (hub t).ports m).changes ≡ false))
 
 -- Pick a port. Take two histories from equal new hubs that become equal when each event and port request naming that port is struck out.
 pub record Matching (w : Machine) (p : PortNumber) (m n : w.Made) (cs ds : List w.Asked) : Type 0 where
-  pub new-hubs : new_hub_of (w.numbers m) ≡ new_hub_of (w.numbers n)
+  pub new_hubs : new_hub_of (w.numbers m) ≡ new_hub_of (w.numbers n)
   pub left : struck (w.numbers m).ports p (map w.call cs) ≡ struck (w.numbers n).ports p (map w.call ds)
 
 -- A matching point is where two such histories end. R holds at all of them.

@@ -28,16 +28,16 @@ use Rattle.numbers.specs.Split.{split_named, split_from, key_named, key_from}
 use Rattle.numbers.specs.Claims.{Naming, SplitHas, KeyHas, NumbersClaims}
 
 -- one of two tests passes
-by-either : {X : Type 0} (a b : Bool) → (a || b) ≡ true → (a ≡ true → X) → (b ≡ true → X) → X
-by-either true b h f g = f refl
-by-either false b h f g = g h
+by_either : {X : Type 0} (a b : Bool) → (a || b) ≡ true → (a ≡ true → X) → (b ≡ true → X) → X
+by_either true b h f g = f refl
+by_either false b h f g = g h
 
 -- the number comes back of what n names, if it does at m and n is m
 back_at : {X : Type 0} (from : ℕ → X) (number : X → ℕ) (m n : ℕ) → number (from m) ≡ m → eqb n m ≡ true → number (from n) ≡ n
 back_at from number m n p e = subst (λ (k : ℕ). number (from k) ≡ k) (sym (eqb-true n m e)) p
 
 lanes : Naming Lane is_lane lane_from lane_number
-lanes = record { named = named; value-back = back; number-back = number-back }
+lanes = record { named = named; value_back = back; number_back = number_back }
   where
     named : (l : Lane) → is_lane (lane_number l) ≡ true
     named Zero = refl
@@ -47,11 +47,11 @@ lanes = record { named = named; value-back = back; number-back = number-back }
     back Zero = refl
     back One = refl
 
-    number-back : (n : ℕ) → is_lane n ≡ true → lane_number (lane_from n) ≡ n
-    number-back n h = by-either (eqb n 0) (eqb n 1) h (back_at lane_from lane_number 0 n refl) (back_at lane_from lane_number 1 n refl)
+    number_back : (n : ℕ) → is_lane n ≡ true → lane_number (lane_from n) ≡ n
+    number_back n h = by_either (eqb n 0) (eqb n 1) h (back_at lane_from lane_number 0 n refl) (back_at lane_from lane_number 1 n refl)
 
 pids : Naming Pid is_pid pid_from pid_number
-pids = record { named = named; value-back = back; number-back = number-back }
+pids = record { named = named; value_back = back; number_back = number_back }
   where
     named : (p : Pid) → is_pid (pid_number p) ≡ true
     named pid.Out = refl
@@ -63,13 +63,13 @@ pids = record { named = named; value-back = back; number-back = number-back }
     back pid.In = refl
     back pid.Setup = refl
 
-    number-back : (n : ℕ) → is_pid n ≡ true → pid_number (pid_from n) ≡ n
-    number-back n h =
-        by-either (eqb n 1) (eqb n 9 || eqb n 13) h (back_at pid_from pid_number 1 n refl)
-        (λ h. by-either (eqb n 9) (eqb n 13) h (back_at pid_from pid_number 9 n refl) (back_at pid_from pid_number 13 n refl))
+    number_back : (n : ℕ) → is_pid n ≡ true → pid_number (pid_from n) ≡ n
+    number_back n h =
+        by_either (eqb n 1) (eqb n 9 || eqb n 13) h (back_at pid_from pid_number 1 n refl)
+        (λ h. by_either (eqb n 9) (eqb n 13) h (back_at pid_from pid_number 9 n refl) (back_at pid_from pid_number 13 n refl))
 
 types : Naming TransferType is_type type_from type_number
-types = record { named = named; value-back = back; number-back = number-back }
+types = record { named = named; value_back = back; number_back = number_back }
   where
     named : (t : TransferType) → is_type (type_number t) ≡ true
     named Control = refl
@@ -79,11 +79,11 @@ types = record { named = named; value-back = back; number-back = number-back }
     back Control = refl
     back Bulk = refl
 
-    number-back : (n : ℕ) → is_type n ≡ true → type_number (type_from n) ≡ n
-    number-back n h = by-either (eqb n 0) (eqb n 2) h (back_at type_from type_number 0 n refl) (back_at type_from type_number 2 n refl)
+    number_back : (n : ℕ) → is_type n ≡ true → type_number (type_from n) ≡ n
+    number_back n h = by_either (eqb n 0) (eqb n 2) h (back_at type_from type_number 0 n refl) (back_at type_from type_number 2 n refl)
 
 directions : Naming Direction is_direction direction_from direction_number
-directions = record { named = named; value-back = back; number-back = number-back }
+directions = record { named = named; value_back = back; number_back = number_back }
   where
     named : (d : Direction) → is_direction (direction_number d) ≡ true
     named direction.Out = refl
@@ -93,12 +93,12 @@ directions = record { named = named; value-back = back; number-back = number-bac
     back direction.Out = refl
     back direction.In = refl
 
-    number-back : (n : ℕ) → is_direction n ≡ true → direction_number (direction_from n) ≡ n
-    number-back n h =
-        by-either (eqb n 0) (eqb n 1) h (back_at direction_from direction_number 0 n refl) (back_at direction_from direction_number 1 n refl)
+    number_back : (n : ℕ) → is_direction n ≡ true → direction_number (direction_from n) ≡ n
+    number_back n h =
+        by_either (eqb n 0) (eqb n 1) h (back_at direction_from direction_number 0 n refl) (back_at direction_from direction_number 1 n refl)
 
 results : Naming DeviceResult is_result result_from result_written
-results = record { named = named; value-back = back; number-back = number-back }
+results = record { named = named; value_back = back; number_back = number_back }
   where
     named : (r : DeviceResult) → is_result (result_written r) ≡ true
     named Failure = refl
@@ -118,19 +118,19 @@ results = record { named = named; value-back = back; number-back = number-back }
 
     handshake : (n : ℕ) → (eqb n 2 || (eqb n 10 || eqb n 14)) ≡ true → result_written (result_from n) ≡ n
     handshake n h =
-        by-either (eqb n 2) (eqb n 10 || eqb n 14) h (back_at result_from result_written 2 n refl)
-        (λ h. by-either (eqb n 10) (eqb n 14) h (back_at result_from result_written 10 n refl) (back_at result_from result_written 14 n refl))
+        by_either (eqb n 2) (eqb n 10 || eqb n 14) h (back_at result_from result_written 2 n refl)
+        (λ h. by_either (eqb n 10) (eqb n 14) h (back_at result_from result_written 10 n refl) (back_at result_from result_written 14 n refl))
 
-    data-pids : (n : ℕ) → (eqb n 3 || eqb n 11) ≡ true → result_written (result_from n) ≡ n
-    data-pids n h = by-either (eqb n 3) (eqb n 11) h (back_at result_from result_written 3 n refl) (back_at result_from result_written 11 n refl)
+    data_pids : (n : ℕ) → (eqb n 3 || eqb n 11) ≡ true → result_written (result_from n) ≡ n
+    data_pids n h = by_either (eqb n 3) (eqb n 11) h (back_at result_from result_written 3 n refl) (back_at result_from result_written 11 n refl)
 
-    number-back : (n : ℕ) → is_result n ≡ true → result_written (result_from n) ≡ n
-    number-back n h =
-        by-either (eqb n 0) ((eqb n 2 || (eqb n 10 || eqb n 14)) || (eqb n 3 || eqb n 11)) h (back_at result_from result_written 0 n refl)
-        (λ h. by-either (eqb n 2 || (eqb n 10 || eqb n 14)) (eqb n 3 || eqb n 11) h (handshake n) (data-pids n))
+    number_back : (n : ℕ) → is_result n ≡ true → result_written (result_from n) ≡ n
+    number_back n h =
+        by_either (eqb n 0) ((eqb n 2 || (eqb n 10 || eqb n 14)) || (eqb n 3 || eqb n 11)) h (back_at result_from result_written 0 n refl)
+        (λ h. by_either (eqb n 2 || (eqb n 10 || eqb n 14)) (eqb n 3 || eqb n 11) h (handshake n) (data_pids n))
 
 events : Naming LineEvent is_event event_from event_number
-events = record { named = named; value-back = back; number-back = number-back }
+events = record { named = named; value_back = back; number_back = number_back }
   where
     named : (e : LineEvent) → is_event (event_number e) ≡ true
     named AttachLow = refl
@@ -152,21 +152,21 @@ events = record { named = named; value-back = back; number-back = number-back }
     back OverCurrentOn = refl
     back OverCurrentOff = refl
 
-    number-back : (n : ℕ) → is_event n ≡ true → event_number (event_from n) ≡ n
-    number-back zero h = refl
-    number-back (suc zero) h = refl
-    number-back (suc (suc zero)) h = refl
-    number-back (suc (suc (suc zero))) h = refl
-    number-back (suc (suc (suc (suc zero)))) h = refl
-    number-back (suc (suc (suc (suc (suc zero))))) h = refl
-    number-back (suc (suc (suc (suc (suc (suc zero)))))) h = refl
-    number-back (suc (suc (suc (suc (suc (suc (suc zero))))))) h = refl
-    number-back (suc (suc (suc (suc (suc (suc (suc (suc n)))))))) h =
+    number_back : (n : ℕ) → is_event n ≡ true → event_number (event_from n) ≡ n
+    number_back zero h = refl
+    number_back (suc zero) h = refl
+    number_back (suc (suc zero)) h = refl
+    number_back (suc (suc (suc zero))) h = refl
+    number_back (suc (suc (suc (suc zero)))) h = refl
+    number_back (suc (suc (suc (suc (suc zero))))) h = refl
+    number_back (suc (suc (suc (suc (suc (suc zero)))))) h = refl
+    number_back (suc (suc (suc (suc (suc (suc (suc zero))))))) h = refl
+    number_back (suc (suc (suc (suc (suc (suc (suc (suc n)))))))) h =
         let l = leb-true (suc (suc (suc (suc (suc (suc (suc (suc n)))))))) 7 h in
         absurd (omega arith)
 
 flags : Naming Bool is_flag flag_from bit
-flags = record { named = named; value-back = back; number-back = number-back }
+flags = record { named = named; value_back = back; number_back = number_back }
   where
     named : (b : Bool) → is_flag (bit b) ≡ true
     named true = refl
@@ -176,20 +176,20 @@ flags = record { named = named; value-back = back; number-back = number-back }
     back true = refl
     back false = refl
 
-    number-back : (n : ℕ) → is_flag n ≡ true → bit (flag_from n) ≡ n
-    number-back zero h = refl
-    number-back (suc zero) h = refl
-    number-back (suc (suc n)) h = let l = leb-true (suc (suc n)) 1 h in absurd (omega arith)
+    number_back : (n : ℕ) → is_flag n ≡ true → bit (flag_from n) ≡ n
+    number_back zero h = refl
+    number_back (suc zero) h = refl
+    number_back (suc (suc n)) h = let l = leb-true (suc (suc n)) 1 h in absurd (omega arith)
 
-low-7 : (a : ℕ) → ltb a 128 ≡ true → a % 128 ≡ a
-low-7 a h = omega (arith, ltb-true a 128 h)
+low_7 : (a : ℕ) → ltb a 128 ≡ true → a % 128 ≡ a
+low_7 a h = omega (arith, ltb-true a 128 h)
 
-low-4 : (e : ℕ) → ltb e 16 ≡ true → e % 16 ≡ e
-low-4 e h = omega (arith, ltb-true e 16 h)
+low_4 : (e : ℕ) → ltb e 16 ≡ true → e % 16 ≡ e
+low_4 e h = omega (arith, ltb-true e 16 h)
 
-split-back : (z p t l g a e : ℕ) → split_named z p t l g a e ≡ true → SplitHas (split_from z p t l g a e) z p t l g a e
+split_back : (z p t l g a e : ℕ) → split_named z p t l g a e ≡ true → SplitHas (split_from z p t l g a e) z p t l g a e
 unfolding split_named split_from
-split-back z p t l g a e h =
+split_back z p t l g a e h =
     let w = (and-eq-true_iff (is_lane z) ((is_pid p && is_type t) && ((is_flag l && is_flag g) && (ltb a 128 && ltb e 16)))).0 h in
     let x = (and-eq-true_iff (is_pid p && is_type t) ((is_flag l && is_flag g) && (ltb a 128 && ltb e 16))).0 w.1 in
     let kind = (and-eq-true_iff (is_pid p) (is_type t)).0 x.0 in
@@ -197,13 +197,13 @@ split-back z p t l g a e h =
     let flag = (and-eq-true_iff (is_flag l) (is_flag g)).0 y.0 in
     let device = (and-eq-true_iff (ltb a 128) (ltb e 16)).0 y.1 in
     record {
-      lane-number = lanes.number-back z w.0;
-      pid-number = pids.number-back p kind.0;
-      type-number = types.number-back t kind.1;
-      low-speed-flag = flags.number-back l flag.0;
-      toggle-flag = flags.number-back g flag.1;
-      address-number = low-7 a device.0;
-      endpoint-number = low-4 e device.1;
+      lane_number_lem = lanes.number_back z w.0;
+      pid_number_lem = pids.number_back p kind.0;
+      type_number_lem = types.number_back t kind.1;
+      low_speed_flag = flags.number_back l flag.0;
+      toggle_flag = flags.number_back g flag.1;
+      address_number = low_7 a device.0;
+      endpoint_number = low_4 e device.1;
     }
 
 key_back : (z a e d : ℕ) → key_named z a e d ≡ true → KeyHas (key_from z a e d) z a e d
@@ -213,74 +213,74 @@ key_back z a e d h =
     let x = (and-eq-true_iff (ltb a 128 && ltb e 16) (is_direction d)).0 w.1 in
     let device = (and-eq-true_iff (ltb a 128) (ltb e 16)).0 x.0 in
     record {
-      lane-number = lanes.number-back z w.0;
-      address-number = low-7 a device.0;
-      endpoint-number = low-4 e device.1;
-      direction-number = directions.number-back d x.1;
+      lane_number_lem = lanes.number_back z w.0;
+      address_number = low_7 a device.0;
+      endpoint_number = low_4 e device.1;
+      direction_number_lem = directions.number_back d x.1;
     }
 
-split-named : (s : StartSplit) → s.address.0 < 128 → s.endpoint < 16
+split_named_lem : (s : StartSplit) → s.address.0 < 128 → s.endpoint < 16
     → split_named (lane_number s.lane) (pid_number s.pid) (type_number s.transfer) (bit s.lowspeed) (bit s.toggle) s.address.0 s.endpoint ≡ true
 unfolding split_named
-split-named s h g =
+split_named_lem s h g =
     rw (lanes.named s.lane, pids.named s.pid, types.named s.transfer, flags.named s.lowspeed, flags.named s.toggle, lt-ltb s.address.0 128 h, lt-ltb s.endpoint 16 g)
 
-split-value : (s : StartSplit) → s.address.0 < 128 → s.endpoint < 16
+split_value : (s : StartSplit) → s.address.0 < 128 → s.endpoint < 16
     → split_from (lane_number s.lane) (pid_number s.pid) (type_number s.transfer) (bit s.lowspeed) (bit s.toggle) s.address.0 s.endpoint ≡ s
 unfolding split_from
-split-value s h g = λ i. record {
-  lane = lanes.value-back s.lane i;
-  pid = pids.value-back s.pid i;
-  transfer = types.value-back s.transfer i;
-  lowspeed = flags.value-back s.lowspeed i;
-  toggle = flags.value-back s.toggle i;
-  address = record { 0 = low-7 s.address.0 (lt-ltb s.address.0 128 h) i };
-  endpoint = low-4 s.endpoint (lt-ltb s.endpoint 16 g) i;
+split_value s h g = λ i. record {
+  lane = lanes.value_back s.lane i;
+  pid = pids.value_back s.pid i;
+  transfer = types.value_back s.transfer i;
+  lowspeed = flags.value_back s.lowspeed i;
+  toggle = flags.value_back s.toggle i;
+  address = record { 0 = low_7 s.address.0 (lt-ltb s.address.0 128 h) i };
+  endpoint = low_4 s.endpoint (lt-ltb s.endpoint 16 g) i;
 }
 
-key-named : (k : Key) → k.address.0 < 128 → k.endpoint < 16 → key_named (lane_number k.lane) k.address.0 k.endpoint (direction_number k.direction) ≡ true
+key_named_lem : (k : Key) → k.address.0 < 128 → k.endpoint < 16 → key_named (lane_number k.lane) k.address.0 k.endpoint (direction_number k.direction) ≡ true
 unfolding key_named
-key-named k h g = rw (lanes.named k.lane, lt-ltb k.address.0 128 h, lt-ltb k.endpoint 16 g, directions.named k.direction)
+key_named_lem k h g = rw (lanes.named k.lane, lt-ltb k.address.0 128 h, lt-ltb k.endpoint 16 g, directions.named k.direction)
 
-key-value : (k : Key) → k.address.0 < 128 → k.endpoint < 16 → key_from (lane_number k.lane) k.address.0 k.endpoint (direction_number k.direction) ≡ k
+key_value : (k : Key) → k.address.0 < 128 → k.endpoint < 16 → key_from (lane_number k.lane) k.address.0 k.endpoint (direction_number k.direction) ≡ k
 unfolding key_from
-key-value k h g = λ i. record {
-  lane = lanes.value-back k.lane i;
-  address = record { 0 = low-7 k.address.0 (lt-ltb k.address.0 128 h) i };
-  endpoint = low-4 k.endpoint (lt-ltb k.endpoint 16 g) i;
-  direction = directions.value-back k.direction i;
+key_value k h g = λ i. record {
+  lane = lanes.value_back k.lane i;
+  address = record { 0 = low_7 k.address.0 (lt-ltb k.address.0 128 h) i };
+  endpoint = low_4 k.endpoint (lt-ltb k.endpoint 16 g) i;
+  direction = directions.value_back k.direction i;
 }
 
-port-range : (count n : ℕ) → (port_named count n ≡ true) ↔ ((1 ≤ n) × (n ≤ count))
-port-range count n = (
+port_range : (count n : ℕ) → (port_named count n ≡ true) ↔ ((1 ≤ n) × (n ≤ count))
+port_range count n = (
   λ h. let x = (and-eq-true_iff (leb 1 n) (leb n count)).0 h in (leb-true 1 n x.0, leb-true n count x.1),
   λ h. rw (le-leb 1 n h.0, le-leb n count h.1),
 )
 
-below-128 : (a : ℕ) → a % 128 < 128
-below-128 a = omega arith
+below_128 : (a : ℕ) → a % 128 < 128
+below_128 a = omega arith
 
-below-16 : (e : ℕ) → e % 16 < 16
-below-16 e = omega arith
+below_16 : (e : ℕ) → e % 16 < 16
+below_16 e = omega arith
 
-split-address : (z p t l g a e : ℕ) → (split_from z p t l g a e).address.0 < 128
+split_address : (z p t l g a e : ℕ) → (split_from z p t l g a e).address.0 < 128
 unfolding split_from
-split-address z p t l g a e = below-128 a
+split_address z p t l g a e = below_128 a
 
-split-endpoint : (z p t l g a e : ℕ) → (split_from z p t l g a e).endpoint < 16
+split_endpoint : (z p t l g a e : ℕ) → (split_from z p t l g a e).endpoint < 16
 unfolding split_from
-split-endpoint z p t l g a e = below-16 e
+split_endpoint z p t l g a e = below_16 e
 
-key-address : (z a e d : ℕ) → (key_from z a e d).address.0 < 128
+key_address : (z a e d : ℕ) → (key_from z a e d).address.0 < 128
 unfolding key_from
-key-address z a e d = below-128 a
+key_address z a e d = below_128 a
 
-key-endpoint : (z a e d : ℕ) → (key_from z a e d).endpoint < 16
+key_endpoint : (z a e d : ℕ) → (key_from z a e d).endpoint < 16
 unfolding key_from
-key-endpoint z a e d = below-16 e
+key_endpoint z a e d = below_16 e
 
-pub numbers-claims : NumbersClaims
-numbers-claims =
+pub numbers_claims_lem : NumbersClaims
+numbers_claims_lem =
     record {
       lanes = lanes;
       pids = pids;
@@ -289,15 +289,15 @@ numbers-claims =
       directions = directions;
       events = events;
       flags = flags;
-      split-address = split-address;
-      split-endpoint = split-endpoint;
-      key-address = key-address;
-      key-endpoint = key-endpoint;
-      split-back = split-back;
+      split_address = split_address;
+      split_endpoint = split_endpoint;
+      key_address = key_address;
+      key_endpoint = key_endpoint;
+      split_back = split_back;
       key_back = key_back;
-      split-named = split-named;
-      split-value = split-value;
-      key-named = key-named;
-      key-value = key-value;
-      port-range = port-range;
+      split_named_lem = split_named_lem;
+      split_value = split_value;
+      key_named_lem = key_named_lem;
+      key_value = key_value;
+      port_range = port_range;
     }

@@ -26,11 +26,11 @@ drop_min zero l = rw zero-min
 drop_min (suc n) [] = rw min-zero
 drop_min (suc n) (x ∷ l) = rw (suc-min-suc, drop_min n l)
 
-pub take-both : (m n : ℕ) (l : List ℕ) → take m (take n l) ≡ take (min n m) l
-take-both zero n l = rw min-zero
-take-both (suc m) zero l = rw zero-min
-take-both (suc m) (suc n) [] = rw suc-min-suc
-take-both (suc m) (suc n) (x ∷ l) = rw (suc-min-suc, take-both m n l)
+pub take_both : (m n : ℕ) (l : List ℕ) → take m (take n l) ≡ take (min n m) l
+take_both zero n l = rw min-zero
+take_both (suc m) zero l = rw zero-min
+take_both (suc m) (suc n) [] = rw suc-min-suc
+take_both (suc m) (suc n) (x ∷ l) = rw (suc-min-suc, take_both m n l)
 
 -- a copy of l over 64 zeros
 pub over_zeros : (l : List ℕ) → take (length l) l ++ drop (length l) (replicate 64 0) ≡ padded l
@@ -54,24 +54,24 @@ unfolding written
 gave p r {len} {n} l e f g =
     let a : n ≡ min (length p.bytes) (min p.len (length r)) = omega arith in
     let t : take n p.bytes ≡ take (length r) (content p) =
-    ap (λ (k : ℕ). take k p.bytes) a ∙ (take_min (min p.len (length r)) p.bytes ∙ sym (take-both (length r) p.len p.bytes)) in
+    ap (λ (k : ℕ). take k p.bytes) a ∙ (take_min (min p.len (length r)) p.bytes ∙ sym (take_both (length r) p.len p.bytes)) in
     let m : length (take n p.bytes) ≡ n = length-take-le n p.bytes (omega arith) in
     let k : length (content p) ≡ len = simp length-take (omega arith) in
     g ∙ rw (take-length, m, t, k, f, drop_min)
 
 -- a payload holds the first 64 bytes, ..
-pub content-taken : (l : List ℕ) → content (payload_of l) ≡ take 64 l
+pub content_taken : (l : List ℕ) → content (payload_of l) ≡ take 64 l
 unfolding payload_of padded
-content-taken l = take-append_seam (take 64 l) (replicate (64 - length (take 64 l)) 0)
+content_taken l = take-append_seam (take 64 l) (replicate (64 - length (take 64 l)) 0)
 
 -- .. with zeros behind them; ..
 pub zeros_of : (l : List ℕ) → (payload_of l).bytes ≡ padded (content (payload_of l))
 unfolding payload_of
-zeros_of l = ap padded (sym (content-taken l))
+zeros_of l = ap padded (sym (content_taken l))
 
 -- .. at most 64 bytes are given back
-pub content-of : (l : List ℕ) → length l ≤ 64 → content (payload_of l) ≡ l
-content-of l h = content-taken l ∙ take_all 64 l h
+pub content_of : (l : List ℕ) → length l ≤ 64 → content (payload_of l) ≡ l
+content_of l h = content_taken l ∙ take_all 64 l h
 
 pub len_of : (l : List ℕ) → length l ≤ 64 → (payload_of l).len ≡ length l
 unfolding payload_of

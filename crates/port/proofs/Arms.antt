@@ -22,17 +22,17 @@ module _ {X : Type 0} (d : X) where
   abbrev pub picked : List X → List ℕ → List X
   picked l ks = map (λ (k : ℕ). get_or l k d) ks
 
-  head-same : (x y : X) (xs ys : List X) → ◌≡◌ {A = List X} (x ∷ xs) (y ∷ ys) → x ≡ y
-  head-same x y xs ys e = cc
+  head_same : (x y : X) (xs ys : List X) → ◌≡◌ {A = List X} (x ∷ xs) (y ∷ ys) → x ≡ y
+  head_same x y xs ys e = cc
 
-  tail-same : (x y : X) (xs ys : List X) → ◌≡◌ {A = List X} (x ∷ xs) (y ∷ ys) → xs ≡ ys
-  tail-same x y xs ys e = cc
+  tail_same : (x y : X) (xs ys : List X) → ◌≡◌ {A = List X} (x ∷ xs) (y ∷ ys) → xs ≡ ys
+  tail_same x y xs ys e = cc
 
   at_key : (l m : List X) (ks : List ℕ) (x : ℕ) → OneOf ks x → picked l ks ≡ picked m ks → get_or l x d ≡ get_or m x d
   at_key l m [] x h a = absurd h
-  at_key l m (k ∷ []) x h a = rw h (head-same _ _ _ _ a)
-  at_key l m (k ∷ k' ∷ ks) x (inl e) a = rw e (head-same _ _ _ _ a)
-  at_key l m (k ∷ k' ∷ ks) x (inr r) a = at_key l m (k' ∷ ks) x r (tail-same _ _ _ _ a)
+  at_key l m (k ∷ []) x h a = rw h (head_same _ _ _ _ a)
+  at_key l m (k ∷ k' ∷ ks) x (inl e) a = rw e (head_same _ _ _ _ a)
+  at_key l m (k ∷ k' ∷ ks) x (inr r) a = at_key l m (k' ∷ ks) x r (tail_same _ _ _ _ a)
 
 -- the two say the same at the states with these tags
 abbrev pub Agree : (R F : PortState → Reaction) → List ℕ → Type 0
@@ -53,5 +53,5 @@ module _ (p : Port) (rule : Bool → PortState → Reaction) (R : PortState → 
   serves h a = ap (reacted p) (arms R (rule p.overcurrent) ks p.state h a)
 
   -- the same where only the port is given back
-  pub serves-port : OneOf ks (tag_of the_type p.state) → Agree R (rule p.overcurrent) ks → (reacted p (R p.state)).port ≡ (ruled rule p).port
-  serves-port h a = ap (λ (r : Answered). r.port) (serves h a)
+  pub serves_port : OneOf ks (tag_of the_type p.state) → Agree R (rule p.overcurrent) ks → (reacted p (R p.state)).port ≡ (ruled rule p).port
+  serves_port h a = ap (λ (r : Answered). r.port) (serves h a)

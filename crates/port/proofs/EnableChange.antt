@@ -50,10 +50,10 @@ still : (rule : Bool → PortState → Reaction) (c : Changes) (l : Bool)
     → ((v : Speed) (t : ℕ) → row (λ s. bit_after c (rule l s)) v t ≡ row (λ s. c.enable) v t) → (s : PortState) → bit_after c (rule l s) ≡ c.enable
 still rule c l = each (λ s. bit_after c (rule l s)) (λ s. c.enable)
 
-chirp-speed : (c : Changes) (l : Bool) (v : Speed) (t : ℕ) → bit_after c (chirp l (Resetting v t)) ≡ c.enable
-chirp-speed c l Low t = refl
-chirp-speed c l Full t = refl
-chirp-speed c l High t = refl
+chirp_speed : (c : Changes) (l : Bool) (v : Speed) (t : ℕ) → bit_after c (chirp l (Resetting v t)) ≡ c.enable
+chirp_speed c l Low t = refl
+chirp_speed c l Full t = refl
+chirp_speed c l High t = refl
 
 abbrev pub is_error : LineEvent → Bool
 is_error AttachLow = false
@@ -65,36 +65,36 @@ is_error PortError = true
 is_error OverCurrentOn = false
 is_error OverCurrentOff = false
 
-event-quiet : (e : LineEvent) → is_error e ≡ false → Quiet (event_rule e)
-event-quiet AttachLow n c l = still (attach Low) c l (λ v t. refl)
-event-quiet AttachFull n c l = still (attach Full) c l (λ v t. refl)
-event-quiet Detach n c l = still detach c l (λ v t. refl)
-event-quiet Chirp n c l = by_state (λ s. bit_after c (chirp l s) ≡ c.enable) refl refl refl (λ v. refl) (chirp-speed c l) (λ v. refl) (λ v. refl) (λ v t. refl)
-event-quiet Wake n c l = still wake c l (λ v t. refl)
-event-quiet PortError n c l = never (sym n)
-event-quiet OverCurrentOn n c true = still over_current_on c true (λ v t. refl)
-event-quiet OverCurrentOn n c false = still over_current_on c false (λ v t. refl)
-event-quiet OverCurrentOff n c true = still over_current_off c true (λ v t. refl)
-event-quiet OverCurrentOff n c false = still over_current_off c false (λ v t. refl)
+event_quiet : (e : LineEvent) → is_error e ≡ false → Quiet (event_rule e)
+event_quiet AttachLow n c l = still (attach Low) c l (λ v t. refl)
+event_quiet AttachFull n c l = still (attach Full) c l (λ v t. refl)
+event_quiet Detach n c l = still detach c l (λ v t. refl)
+event_quiet Chirp n c l = by_state (λ s. bit_after c (chirp l s) ≡ c.enable) refl refl refl (λ v. refl) (chirp_speed c l) (λ v. refl) (λ v. refl) (λ v t. refl)
+event_quiet Wake n c l = still wake c l (λ v t. refl)
+event_quiet PortError n c l = never (sym n)
+event_quiet OverCurrentOn n c true = still over_current_on c true (λ v t. refl)
+event_quiet OverCurrentOn n c false = still over_current_on c false (λ v t. refl)
+event_quiet OverCurrentOff n c true = still over_current_off c true (λ v t. refl)
+event_quiet OverCurrentOff n c false = still over_current_off c false (λ v t. refl)
 
-tick-quiet : Quiet ticking.tick
-tick-quiet c l =
+tick_quiet : Quiet ticking.tick
+tick_quiet c l =
     by_state (λ s. bit_after c (ticking.tick l s) ≡ c.enable) refl refl refl (λ v. refl)
     (λ v t. by_bool (λ b. bit_after c (cond b (done (Resetting v (t + 1)) l []) (done (Enabled v) l (bit.Reset ∷ []))) ≡ c.enable) refl refl (ltb t 14))
     (λ v. refl) (λ v. refl)
     (λ v t. by_bool (λ b. bit_after c (cond b (done (Resuming v (t + 1)) l []) (done (Enabled v) l (bit.Suspend ∷ []))) ≡ c.enable) refl refl (ltb t 21))
 
-set-quiet : (f : SettableFeature) → Quiet (set_rule f)
-set-quiet settable.Suspend c l = still set_suspend c l (λ v t. refl)
-set-quiet settable.Reset c l = still set_reset c l (λ v t. refl)
-set-quiet settable.Power c true = still set_power c true (λ v t. refl)
-set-quiet settable.Power c false = still set_power c false (λ v t. refl)
+set_quiet : (f : SettableFeature) → Quiet (set_rule f)
+set_quiet settable.Suspend c l = still set_suspend c l (λ v t. refl)
+set_quiet settable.Reset c l = still set_reset c l (λ v t. refl)
+set_quiet settable.Power c true = still set_power c true (λ v t. refl)
+set_quiet settable.Power c false = still set_power c false (λ v t. refl)
 
-enable-quiet : Quiet clear_enable
-enable-quiet c l = still clear_enable c l (λ v t. refl)
+enable_quiet : Quiet clear_enable
+enable_quiet c l = still clear_enable c l (λ v t. refl)
 
-suspend-quiet : Quiet clear_suspend
-suspend-quiet c l = still clear_suspend c l (λ v t. refl)
+suspend_quiet : Quiet clear_suspend
+suspend_quiet c l = still clear_suspend c l (λ v t. refl)
 
 -- ---- an input that is neither a port error nor clears C_PORT_ENABLE keeps it
 
@@ -117,21 +117,21 @@ keeps input.BusReset = false
 at-port : (rule : Bool → PortState → Reaction) → Quiet rule → (p : Port) → (ruled rule p).port.changes.enable ≡ p.changes.enable
 at-port rule q p = bit-after p (rule p.overcurrent p.state) ∙ q p.changes p.overcurrent p.state
 
-pub enable-kept : (p : Port) (i : Input) → keeps i ≡ true → (after p i).changes.enable ≡ p.changes.enable
-enable-kept p (input.Event e) k = at-port (event_rule e) (event-quiet e (not-true (is_error e) k)) p
-enable-kept p input.Tick k = at-port ticking.tick tick-quiet p
-enable-kept p (input.SetFeature f) k = at-port (set_rule f) (set-quiet f) p
-enable-kept p (input.ClearFeature clearable.Enable) k = at-port clear_enable enable-quiet p
-enable-kept p (input.ClearFeature clearable.Suspend) k = at-port clear_suspend suspend-quiet p
-enable-kept p (input.ClearFeature clearable.Power) k = refl
-enable-kept p (input.ClearFeature (clearable.Change bit.Connection)) k = refl
-enable-kept p (input.ClearFeature (clearable.Change bit.Enable)) k = never k
-enable-kept p (input.ClearFeature (clearable.Change bit.Suspend)) k = refl
-enable-kept p (input.ClearFeature (clearable.Change bit.OverCurrent)) k = refl
-enable-kept p (input.ClearFeature (clearable.Change bit.Reset)) k = refl
-enable-kept p input.Configure k = refl
-enable-kept p input.Unconfigure k = refl
-enable-kept p input.BusReset k = never k
+pub enable_kept : (p : Port) (i : Input) → keeps i ≡ true → (after p i).changes.enable ≡ p.changes.enable
+enable_kept p (input.Event e) k = at-port (event_rule e) (event_quiet e (not-true (is_error e) k)) p
+enable_kept p input.Tick k = at-port ticking.tick tick_quiet p
+enable_kept p (input.SetFeature f) k = at-port (set_rule f) (set_quiet f) p
+enable_kept p (input.ClearFeature clearable.Enable) k = at-port clear_enable enable_quiet p
+enable_kept p (input.ClearFeature clearable.Suspend) k = at-port clear_suspend suspend_quiet p
+enable_kept p (input.ClearFeature clearable.Power) k = refl
+enable_kept p (input.ClearFeature (clearable.Change bit.Connection)) k = refl
+enable_kept p (input.ClearFeature (clearable.Change bit.Enable)) k = never k
+enable_kept p (input.ClearFeature (clearable.Change bit.Suspend)) k = refl
+enable_kept p (input.ClearFeature (clearable.Change bit.OverCurrent)) k = refl
+enable_kept p (input.ClearFeature (clearable.Change bit.Reset)) k = refl
+enable_kept p input.Configure k = refl
+enable_kept p input.Unconfigure k = refl
+enable_kept p input.BusReset k = never k
 
 -- ---- a port error
 
@@ -155,11 +155,11 @@ errs p z =
     off : {s : PortState} → is_enabled s ≡ false → (p.changes.enable ≡ true) ↔ ((v : Speed) × (s ≡ Enabled v))
     off n = (λ h. never (sym z ∙ h), λ h. never (sym n ∙ ap is_enabled h.1))
 
-by-error : (p : Port) → p.changes.enable ≡ false → ((after p (input.Event PortError)).changes.enable ≡ true) ↔ ErrorWhileEnabled p (input.Event PortError)
-by-error p z =
+by_error : (p : Port) → p.changes.enable ≡ false → ((after p (input.Event PortError)).changes.enable ≡ true) ↔ ErrorWhileEnabled p (input.Event PortError)
+by_error p z =
     let r = port_error p.overcurrent p.state in
     let w = errs p z p.state in (
-      λ h. let x = w.0 (sym (bit-after p r) ∙ h) in record { port-error = refl; speed = x.0; enabled = x.1 },
+      λ h. let x = w.0 (sym (bit-after p r) ∙ h) in record { port_error_lem = refl; speed = x.0; enabled = x.1 },
       λ h. bit-after p r ∙ w.1 (h.speed, h.enabled),
     )
 
@@ -172,14 +172,14 @@ is_port_error input.Configure = false
 is_port_error input.Unconfigure = false
 is_port_error input.BusReset = false
 
-pub enable-change : EnableChange after
-enable-change p i z = go i
+pub enable_change : EnableChange after
+enable_change p i z = go i
   where
     unset : (i : Input) → is_port_error i ≡ false → (after p i).changes.enable ≡ false → ((after p i).changes.enable ≡ true) ↔ ErrorWhileEnabled p i
-    unset i n u = (λ h. never (sym u ∙ h), λ h. never (sym n ∙ ap is_port_error h.port-error))
+    unset i n u = (λ h. never (sym u ∙ h), λ h. never (sym n ∙ ap is_port_error h.port_error_lem))
 
     kept : (i : Input) → is_port_error i ≡ false → keeps i ≡ true → ((after p i).changes.enable ≡ true) ↔ ErrorWhileEnabled p i
-    kept i n k = unset i n (enable-kept p i k ∙ z)
+    kept i n k = unset i n (enable_kept p i k ∙ z)
 
     go : (i : Input) → ((after p i).changes.enable ≡ true) ↔ ErrorWhileEnabled p i
     go (input.Event AttachLow) = kept (input.Event AttachLow) refl refl
@@ -187,7 +187,7 @@ enable-change p i z = go i
     go (input.Event Detach) = kept (input.Event Detach) refl refl
     go (input.Event Chirp) = kept (input.Event Chirp) refl refl
     go (input.Event Wake) = kept (input.Event Wake) refl refl
-    go (input.Event PortError) = by-error p z
+    go (input.Event PortError) = by_error p z
     go (input.Event OverCurrentOn) = kept (input.Event OverCurrentOn) refl refl
     go (input.Event OverCurrentOff) = kept (input.Event OverCurrentOff) refl refl
     go input.Tick = kept input.Tick refl refl

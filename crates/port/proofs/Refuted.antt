@@ -19,19 +19,19 @@ abbrev quiet_in : PortState → Port
 quiet_in s = record { state = s; overcurrent = false; changes = no_changes }
 
 -- C_PORT_ENABLE is newly set by an input that is no port error
-set-by : (rule : Port → Input → Port) (s : PortState) (i : Input) → is_port_error i ≡ false → (rule (quiet_in s) i).changes.enable ≡ true
+set_by : (rule : Port → Input → Port) (s : PortState) (i : Input) → is_port_error i ≡ false → (rule (quiet_in s) i).changes.enable ≡ true
     → ¬ (EnableChange rule)
-set-by rule s i n set claim = true≢false (sym (ap is_port_error ((claim (quiet_in s) i refl).0 set).port-error) ∙ n)
+set_by rule s i n set claim = true≢false (sym (ap is_port_error ((claim (quiet_in s) i refl).0 set).port_error_lem) ∙ n)
 
-pub enable-mistakes-shut-out : EnableMistakesShutOut
-enable-mistakes-shut-out =
+pub enable_mistakes_shut_out_lem : EnableMistakesShutOut
+enable_mistakes_shut_out_lem =
     record {
-      before-C-12 = set-by before_c12 (Enabled Full) (input.Event Detach) refl refl;
-      by-detach = set-by (also_where (ended_by (only detach))) (Suspended Full) (input.Event Detach) refl refl;
-      by-over-current = set-by (also_where (ended_by (only over_current))) (Resuming Full 0) (input.Event OverCurrentOn) refl refl;
-      by-tick = set-by (also_where reset_ends) (Resetting Full 14) input.Tick refl refl;
-      by-request = set-by (also_where (ended_by (only request))) (Enabled Full) (input.ClearFeature clearable.Enable) refl refl;
-      by-configuration = set-by (also_where (ended_by (only configuration))) (Enabled Full) input.Configure refl refl;
-      by-bus-reset = set-by (also_where (ended_by (only reset))) (Enabled Full) input.BusReset refl refl;
-      never = λ claim. true≢false (sym ((claim (quiet_in (Enabled Full)) (input.Event PortError) refl).1 (record { port-error = refl; speed = Full; enabled = refl })));
+      before_C_12 = set_by before_c12 (Enabled Full) (input.Event Detach) refl refl;
+      by_detach = set_by (also_where (ended_by (only detach))) (Suspended Full) (input.Event Detach) refl refl;
+      by_over_current = set_by (also_where (ended_by (only over_current))) (Resuming Full 0) (input.Event OverCurrentOn) refl refl;
+      by_tick = set_by (also_where reset_ends) (Resetting Full 14) input.Tick refl refl;
+      by_request_lem = set_by (also_where (ended_by (only request))) (Enabled Full) (input.ClearFeature clearable.Enable) refl refl;
+      by_configuration = set_by (also_where (ended_by (only configuration))) (Enabled Full) input.Configure refl refl;
+      by_bus_reset = set_by (also_where (ended_by (only reset))) (Enabled Full) input.BusReset refl refl;
+      never = λ claim. true≢false (sym ((claim (quiet_in (Enabled Full)) (input.Event PortError) refl).1 (record { port_error_lem = refl; speed = Full; enabled = refl })));
     }

@@ -44,6 +44,6 @@ abbrev pub next : PortState → Reaction → PortState
 next s refused = s
 next s (done s' l bs) = s'
 
-pub next-state : (p : Port) (r : Reaction) → (reacted p r).port.state ≡ next p.state r
-next-state p refused = refl
-next-state p (done s l bs) = refl
+pub next_state : (p : Port) (r : Reaction) → (reacted p r).port.state ≡ next p.state r
+next_state p refused = refl
+next_state p (done s l bs) = refl

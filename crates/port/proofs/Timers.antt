@@ -26,7 +26,7 @@ use Rattle.port.specs.declared.Input.{Input}
 use Rattle.port.specs.declared.Input.TheVariants as input
 use Rattle.port.specs.Input.{after}
 use Rattle.port.specs.Words.{TimerBelowEnd}
-use Rattle.port.proofs.States.{by_state, next, next-state}
+use Rattle.port.proofs.States.{by_state, next, next_state}
 
 keep : {A : Type 0} → A → A
 keep h = h
@@ -39,62 +39,62 @@ abbrev Kept : (Bool → PortState → Reaction) → Type 0
 Kept rule = (l : Bool) (s : PortState) → KeptAt rule l s
 
 -- the value of a test, with its equation
-reset-ticks : (l : Bool) (s : Speed) (t : ℕ) (b : Bool) → ltb t 14 ≡ b
+reset_ticks : (l : Bool) (s : Speed) (t : ℕ) (b : Bool) → ltb t 14 ≡ b
     → TimerBelowEnd (next (Resetting s t) (cond b (done (Resetting s (t + 1)) l []) (done (Enabled s) l (Reset ∷ []))))
-reset-ticks l s t true e = omega (arith, ltb-true t 14 e)
-reset-ticks l s t false e = tt
+reset_ticks l s t true e = omega (arith, ltb-true t 14 e)
+reset_ticks l s t false e = tt
 
-resume-ticks : (l : Bool) (s : Speed) (t : ℕ) (b : Bool) → ltb t 21 ≡ b
+resume_ticks : (l : Bool) (s : Speed) (t : ℕ) (b : Bool) → ltb t 21 ≡ b
     → TimerBelowEnd (next (Resuming s t) (cond b (done (Resuming s (t + 1)) l []) (done (Enabled s) l (Suspend ∷ []))))
-resume-ticks l s t true e = omega (arith, ltb-true t 21 e)
-resume-ticks l s t false e = tt
+resume_ticks l s t true e = omega (arith, ltb-true t 21 e)
+resume_ticks l s t false e = tt
 
-tick-kept : Kept ticking.tick
-tick-kept l =
-    by_state (KeptAt ticking.tick l) keep keep keep (λ s. keep) (λ s t h. reset-ticks l s t (ltb t 14) refl) (λ s. keep) (λ s. keep)
-    (λ s t h. resume-ticks l s t (ltb t 21) refl)
+tick_kept : Kept ticking.tick
+tick_kept l =
+    by_state (KeptAt ticking.tick l) keep keep keep (λ s. keep) (λ s t h. reset_ticks l s t (ltb t 14) refl) (λ s. keep) (λ s. keep)
+    (λ s t h. resume_ticks l s t (ltb t 21) refl)
 
-chirp-speed : (l : Bool) (s : Speed) (t : ℕ) → KeptAt chirp l (Resetting s t)
-chirp-speed l Low t h = h
-chirp-speed l Full t h = h
-chirp-speed l High t h = h
+chirp_speed : (l : Bool) (s : Speed) (t : ℕ) → KeptAt chirp l (Resetting s t)
+chirp_speed l Low t h = h
+chirp_speed l Full t h = h
+chirp_speed l High t h = h
 
-event-kept : (e : LineEvent) → Kept (event_rule e)
-event-kept AttachLow l = by_state (KeptAt (attach Low) l) keep keep keep (λ s. keep) (λ s t. keep) (λ s. keep) (λ s. keep) (λ s t. keep)
-event-kept AttachFull l = by_state (KeptAt (attach Full) l) keep keep keep (λ s. keep) (λ s t. keep) (λ s. keep) (λ s. keep) (λ s t. keep)
-event-kept Detach l = by_state (KeptAt detach l) keep keep keep (λ s. keep) (λ s t. keep) (λ s. keep) (λ s. keep) (λ s t. keep)
-event-kept Chirp l = by_state (KeptAt chirp l) keep keep keep (λ s. keep) (chirp-speed l) (λ s. keep) (λ s. keep) (λ s t. keep)
-event-kept Wake l = by_state (KeptAt wake l) keep keep keep (λ s. keep) (λ s t. keep) (λ s. keep) (λ s h. omega arith) (λ s t. keep)
-event-kept PortError l = by_state (KeptAt port_error l) keep keep keep (λ s. keep) (λ s t. keep) (λ s. keep) (λ s. keep) (λ s t. keep)
-event-kept OverCurrentOn true = by_state (KeptAt over_current_on true) keep keep keep (λ s. keep) (λ s t. keep) (λ s. keep) (λ s. keep) (λ s t. keep)
-event-kept OverCurrentOn false = by_state (KeptAt over_current_on false) keep keep keep (λ s. keep) (λ s t h. tt) (λ s. keep) (λ s. keep) (λ s t h. tt)
-event-kept OverCurrentOff true = by_state (KeptAt over_current_off true) keep keep keep (λ s. keep) (λ s t. keep) (λ s. keep) (λ s. keep) (λ s t. keep)
-event-kept OverCurrentOff false = by_state (KeptAt over_current_off false) keep keep keep (λ s. keep) (λ s t. keep) (λ s. keep) (λ s. keep) (λ s t. keep)
+event_kept : (e : LineEvent) → Kept (event_rule e)
+event_kept AttachLow l = by_state (KeptAt (attach Low) l) keep keep keep (λ s. keep) (λ s t. keep) (λ s. keep) (λ s. keep) (λ s t. keep)
+event_kept AttachFull l = by_state (KeptAt (attach Full) l) keep keep keep (λ s. keep) (λ s t. keep) (λ s. keep) (λ s. keep) (λ s t. keep)
+event_kept Detach l = by_state (KeptAt detach l) keep keep keep (λ s. keep) (λ s t. keep) (λ s. keep) (λ s. keep) (λ s t. keep)
+event_kept Chirp l = by_state (KeptAt chirp l) keep keep keep (λ s. keep) (chirp_speed l) (λ s. keep) (λ s. keep) (λ s t. keep)
+event_kept Wake l = by_state (KeptAt wake l) keep keep keep (λ s. keep) (λ s t. keep) (λ s. keep) (λ s h. omega arith) (λ s t. keep)
+event_kept PortError l = by_state (KeptAt port_error l) keep keep keep (λ s. keep) (λ s t. keep) (λ s. keep) (λ s. keep) (λ s t. keep)
+event_kept OverCurrentOn true = by_state (KeptAt over_current_on true) keep keep keep (λ s. keep) (λ s t. keep) (λ s. keep) (λ s. keep) (λ s t. keep)
+event_kept OverCurrentOn false = by_state (KeptAt over_current_on false) keep keep keep (λ s. keep) (λ s t h. tt) (λ s. keep) (λ s. keep) (λ s t h. tt)
+event_kept OverCurrentOff true = by_state (KeptAt over_current_off true) keep keep keep (λ s. keep) (λ s t. keep) (λ s. keep) (λ s. keep) (λ s t. keep)
+event_kept OverCurrentOff false = by_state (KeptAt over_current_off false) keep keep keep (λ s. keep) (λ s t. keep) (λ s. keep) (λ s. keep) (λ s t. keep)
 
-set-kept : (f : SettableFeature) → Kept (set_rule f)
-set-kept settable.Suspend l = by_state (KeptAt set_suspend l) keep keep keep (λ s. keep) (λ s t. keep) (λ s. keep) (λ s. keep) (λ s t. keep)
-set-kept settable.Reset l =
+set_kept : (f : SettableFeature) → Kept (set_rule f)
+set_kept settable.Suspend l = by_state (KeptAt set_suspend l) keep keep keep (λ s. keep) (λ s t. keep) (λ s. keep) (λ s. keep) (λ s t. keep)
+set_kept settable.Reset l =
     by_state (KeptAt set_reset l) keep keep keep (λ s h. omega arith) (λ s t. keep) (λ s h. omega arith) (λ s h. omega arith) (λ s t h. omega arith)
-set-kept settable.Power true = by_state (KeptAt set_power true) keep keep keep (λ s. keep) (λ s t. keep) (λ s. keep) (λ s. keep) (λ s t. keep)
-set-kept settable.Power false = by_state (KeptAt set_power false) keep keep keep (λ s. keep) (λ s t. keep) (λ s. keep) (λ s. keep) (λ s t. keep)
+set_kept settable.Power true = by_state (KeptAt set_power true) keep keep keep (λ s. keep) (λ s t. keep) (λ s. keep) (λ s. keep) (λ s t. keep)
+set_kept settable.Power false = by_state (KeptAt set_power false) keep keep keep (λ s. keep) (λ s t. keep) (λ s. keep) (λ s. keep) (λ s t. keep)
 
-enable-kept : Kept clear_enable
-enable-kept l = by_state (KeptAt clear_enable l) keep keep keep (λ s. keep) (λ s t h. tt) (λ s. keep) (λ s. keep) (λ s t h. tt)
+enable_kept : Kept clear_enable
+enable_kept l = by_state (KeptAt clear_enable l) keep keep keep (λ s. keep) (λ s t h. tt) (λ s. keep) (λ s. keep) (λ s t h. tt)
 
-suspend-kept : Kept clear_suspend
-suspend-kept l = by_state (KeptAt clear_suspend l) keep keep keep (λ s. keep) (λ s t. keep) (λ s. keep) (λ s h. omega arith) (λ s t. keep)
+suspend_kept : Kept clear_suspend
+suspend_kept l = by_state (KeptAt clear_suspend l) keep keep keep (λ s. keep) (λ s t. keep) (λ s. keep) (λ s h. omega arith) (λ s t. keep)
 
 at-port : (rule : Bool → PortState → Reaction) → Kept rule → (p : Port) → TimerBelowEnd p.state → TimerBelowEnd (ruled rule p).port.state
-at-port rule k p h = rw (next-state p (rule p.overcurrent p.state)) (k p.overcurrent p.state h)
+at-port rule k p h = rw (next_state p (rule p.overcurrent p.state)) (k p.overcurrent p.state h)
 
-pub timer-kept : (p : Port) (i : Input) → TimerBelowEnd p.state → TimerBelowEnd (after p i).state
-timer-kept p (input.Event e) h = at-port (event_rule e) (event-kept e) p h
-timer-kept p input.Tick h = at-port ticking.tick tick-kept p h
-timer-kept p (input.SetFeature f) h = at-port (set_rule f) (set-kept f) p h
-timer-kept p (input.ClearFeature clearable.Enable) h = at-port clear_enable enable-kept p h
-timer-kept p (input.ClearFeature clearable.Suspend) h = at-port clear_suspend suspend-kept p h
-timer-kept p (input.ClearFeature clearable.Power) h = tt
-timer-kept p (input.ClearFeature (clearable.Change b)) h = h
-timer-kept p input.Configure h = tt
-timer-kept p input.Unconfigure h = tt
-timer-kept p input.BusReset h = tt
+pub timer_kept : (p : Port) (i : Input) → TimerBelowEnd p.state → TimerBelowEnd (after p i).state
+timer_kept p (input.Event e) h = at-port (event_rule e) (event_kept e) p h
+timer_kept p input.Tick h = at-port ticking.tick tick_kept p h
+timer_kept p (input.SetFeature f) h = at-port (set_rule f) (set_kept f) p h
+timer_kept p (input.ClearFeature clearable.Enable) h = at-port clear_enable enable_kept p h
+timer_kept p (input.ClearFeature clearable.Suspend) h = at-port clear_suspend suspend_kept p h
+timer_kept p (input.ClearFeature clearable.Power) h = tt
+timer_kept p (input.ClearFeature (clearable.Change b)) h = h
+timer_kept p input.Configure h = tt
+timer_kept p input.Unconfigure h = tt
+timer_kept p input.BusReset h = tt

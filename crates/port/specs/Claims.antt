@@ -18,7 +18,7 @@ use Rattle.port.specs.Words.{TimerBelowEnd, bits_of, change_bit, NamedIn}
 
 -- a port error on an Enabled port, at any speed
 pub record ErrorWhileEnabled (p : Port) (i : Input) : Type 0 where
-  pub port-error : i ≡ input.Event PortError
+  pub port_error_lem : i ≡ input.Event PortError
   pub speed : Speed
   pub enabled : p.state ≡ Enabled speed
 
@@ -28,23 +28,23 @@ EnableChange rule = (p : Port) (i : Input) → p.changes.enable ≡ false → ((
 
 pub record PortClaims : Type 0 where
   -- every port has its timer below its end
-  pub new-timer : TimerBelowEnd new_port.state
-  pub timer-kept : (p : Port) (i : Input) → TimerBelowEnd p.state → TimerBelowEnd (after p i).state
+  pub new_timer : TimerBelowEnd new_port.state
+  pub timer_kept : (p : Port) (i : Input) → TimerBelowEnd p.state → TimerBelowEnd (after p i).state
   -- the bits of the four status bytes are those of the tables, the over-current level and the change bits; all others are 0
-  pub status-bits : (p : Port) → map (bits_of 8) (status_bytes p) ≡ status_bits p
+  pub status_bits_lem : (p : Port) → map (bits_of 8) (status_bytes p) ≡ status_bits p
   -- 8 not in this state: nothing changed
-  pub event-answers : (p : Port) (e : LineEvent) → ((line_event p e).number ≡ 0) ⊎ ((line_event p e).number ≡ 8)
+  pub event_answers : (p : Port) (e : LineEvent) → ((line_event p e).number ≡ 0) ⊎ ((line_event p e).number ≡ 8)
   -- Events elsewhere than named answer 8.
-  pub event-done : (p : Port) (e : LineEvent) → ((line_event p e).number ≡ 0) ↔ NamedIn e p.state
-  pub refused-unchanged : (p : Port) (e : LineEvent) → (line_event p e).number ≡ 8 → (line_event p e).port ≡ p
+  pub event_done : (p : Port) (e : LineEvent) → ((line_event p e).number ≡ 0) ↔ NamedIn e p.state
+  pub refused_unchanged : (p : Port) (e : LineEvent) → (line_event p e).number ≡ 8 → (line_event p e).port ≡ p
   -- Change bits stay until cleared by request or bus reset
-  pub change-stays : (b : ChangeBit) (p : Port) (i : Input) → ¬ (i ≡ input.ClearFeature (Change b)) → ¬ (i ≡ input.BusReset)
+  pub change_stays : (b : ChangeBit) (p : Port) (i : Input) → ¬ (i ≡ input.ClearFeature (Change b)) → ¬ (i ≡ input.BusReset)
       → change_bit b p.changes ≡ true → change_bit b (after p i).changes ≡ true
-  pub change-cleared : (b : ChangeBit) (p : Port) → change_bit b (after p (input.ClearFeature (Change b))).changes ≡ false
-  pub all-cleared : (b : ChangeBit) (p : Port) → change_bit b (after p input.BusReset).changes ≡ false
-  pub others-kept : (b x : ChangeBit) (p : Port) → ¬ (x ≡ b)
+  pub change_cleared_lem : (b : ChangeBit) (p : Port) → change_bit b (after p (input.ClearFeature (Change b))).changes ≡ false
+  pub all_cleared : (b : ChangeBit) (p : Port) → change_bit b (after p input.BusReset).changes ≡ false
+  pub others_kept : (b x : ChangeBit) (p : Port) → ¬ (x ≡ b)
       → change_bit x (after p (input.ClearFeature (Change b))).changes ≡ change_bit x p.changes
-  pub state-kept : (b : ChangeBit) (p : Port) → (after p (input.ClearFeature (Change b))).state ≡ p.state
-  pub level-kept : (b : ChangeBit) (p : Port) → (after p (input.ClearFeature (Change b))).overcurrent ≡ p.overcurrent
+  pub state_kept : (b : ChangeBit) (p : Port) → (after p (input.ClearFeature (Change b))).state ≡ p.state
+  pub level_kept : (b : ChangeBit) (p : Port) → (after p (input.ClearFeature (Change b))).overcurrent ≡ p.overcurrent
   -- C-12 (USB 2.0, 11.24.2.7.2.2): C_PORT_ENABLE is set for a port error alone
-  pub enable-change : EnableChange after
+  pub enable_change : EnableChange after

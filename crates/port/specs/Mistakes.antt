@@ -78,11 +78,11 @@ unreported p i =
     (record { connection = c.connection; enable = p.changes.enable && c.enable; suspend = c.suspend; overcurrent = c.overcurrent; reset = c.reset })
 
 pub record EnableMistakesShutOut : Type 0 where
-  pub before-C-12 : ¬ (EnableChange before_c12)
-  pub by-detach : ¬ (EnableChange (also_where (ended_by (only detach))))
-  pub by-over-current : ¬ (EnableChange (also_where (ended_by (only over_current))))
-  pub by-tick : ¬ (EnableChange (also_where reset_ends))
-  pub by-request : ¬ (EnableChange (also_where (ended_by (only request))))
-  pub by-configuration : ¬ (EnableChange (also_where (ended_by (only configuration))))
-  pub by-bus-reset : ¬ (EnableChange (also_where (ended_by (only reset))))
+  pub before_C_12 : ¬ (EnableChange before_c12)
+  pub by_detach : ¬ (EnableChange (also_where (ended_by (only detach))))
+  pub by_over_current : ¬ (EnableChange (also_where (ended_by (only over_current))))
+  pub by_tick : ¬ (EnableChange (also_where reset_ends))
+  pub by_request_lem : ¬ (EnableChange (also_where (ended_by (only request))))
+  pub by_configuration : ¬ (EnableChange (also_where (ended_by (only configuration))))
+  pub by_bus_reset : ¬ (EnableChange (also_where (ended_by (only reset))))
   pub never : ¬ (EnableChange unreported)

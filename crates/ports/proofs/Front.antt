@@ -9,32 +9,32 @@ use lib.Seq.{set-set}
 use Rattle.ports.specs.Sweep.{front}
 
 module _ {A : Type 0} (f : A → A) where
-  front-suc : (i : ℕ) (l : List A) (d : A) → i < length l → set (front f i l) i (f (get_or (front f i l) i d)) ≡ front f (suc i) l
+  front_suc : (i : ℕ) (l : List A) (d : A) → i < length l → set (front f i l) i (f (get_or (front f i l) i d)) ≡ front f (suc i) l
   unfolding front
-  front-suc zero [] d h = refl
-  front-suc zero (x ∷ xs) d h = refl
-  front-suc (suc i) [] d h = refl
-  front-suc (suc i) (x ∷ xs) d h = ap (λ (ys : List A). f x ∷ ys) (front-suc i xs d (omega arith))
+  front_suc zero [] d h = refl
+  front_suc zero (x ∷ xs) d h = refl
+  front_suc (suc i) [] d h = refl
+  front_suc (suc i) (x ∷ xs) d h = ap (λ (ys : List A). f x ∷ ys) (front_suc i xs d (omega arith))
 
-  pub front-step : (i : ℕ) (l : List A) (d : A) → i < length l → set (front f i l) i (f (get_or (front f i l) i d)) ≡ front f (i + 1) l
-  front-step i l d h = rw add-one (front-suc i l d h)
+  pub front_step : (i : ℕ) (l : List A) (d : A) → i < length l → set (front f i l) i (f (get_or (front f i l) i d)) ≡ front f (i + 1) l
+  front_step i l d h = rw add-one (front_suc i l d h)
 
   -- past the list's end nothing more happens
-  pub front-over : (i n : ℕ) (l : List A) → length l ≤ i → i ≤ n → front f i l ≡ front f n l
+  pub front_over : (i n : ℕ) (l : List A) → length l ≤ i → i ≤ n → front f i l ≡ front f n l
   unfolding front
-  front-over zero zero [] h g = refl
-  front-over zero (suc n) [] h g = refl
-  front-over zero n (x ∷ xs) h g = absurd (omega arith)
-  front-over (suc i) zero l h g = absurd (omega arith)
-  front-over (suc i) (suc n) [] h g = refl
-  front-over (suc i) (suc n) (x ∷ xs) h g = ap (λ (ys : List A). f x ∷ ys) (front-over i n xs (omega arith) (omega arith))
+  front_over zero zero [] h g = refl
+  front_over zero (suc n) [] h g = refl
+  front_over zero n (x ∷ xs) h g = absurd (omega arith)
+  front_over (suc i) zero l h g = absurd (omega arith)
+  front_over (suc i) (suc n) [] h g = refl
+  front_over (suc i) (suc n) (x ∷ xs) h g = ap (λ (ys : List A). f x ∷ ys) (front_over i n xs (omega arith) (omega arith))
 
   -- the elements behind the first n are left alone
-  pub drop-front : (n : ℕ) (l : List A) → drop n (front f n l) ≡ drop n l
+  pub drop_front : (n : ℕ) (l : List A) → drop n (front f n l) ≡ drop n l
   unfolding front
-  drop-front zero l = refl
-  drop-front (suc n) [] = refl
-  drop-front (suc n) (x ∷ xs) = drop-front n xs
+  drop_front zero l = refl
+  drop_front (suc n) [] = refl
+  drop_front (suc n) (x ∷ xs) = drop_front n xs
 
   pub length_front : (n : ℕ) (l : List A) → length (front f n l) ≡ length l
   unfolding front
@@ -51,9 +51,9 @@ module _ {A : Type 0} (f : A → A) where
   get_d_front (suc n) (suc i) (x ∷ xs) d h g = get_d_front n i xs d (omega arith) (omega arith)
 
   -- what f does to the others doesn't depend on element i
-  pub front-set : (n i : ℕ) (l : List A) (x y : A) → set (front f n (set l i x)) i y ≡ set (front f n l) i y
+  pub front_set : (n i : ℕ) (l : List A) (x y : A) → set (front f n (set l i x)) i y ≡ set (front f n l) i y
   unfolding front
-  front-set zero i l x y = set-set l i x y
-  front-set (suc n) i [] x y = refl
-  front-set (suc n) zero (z ∷ l) x y = refl
-  front-set (suc n) (suc i) (z ∷ l) x y = ap (λ (r : List A). f z ∷ r) (front-set n i l x y)
+  front_set zero i l x y = set-set l i x y
+  front_set (suc n) i [] x y = refl
+  front_set (suc n) zero (z ∷ l) x y = refl
+  front_set (suc n) (suc i) (z ∷ l) x y = ap (λ (r : List A). f z ∷ r) (front_set n i l x y)

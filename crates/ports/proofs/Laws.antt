@@ -20,11 +20,11 @@ use Rattle.ports.specs.Ports.{new_ports, one_to_seven, port_at, with_port}
 use Rattle.ports.specs.Sweep.{swept_by, swept}
 use Rattle.ports.specs.Bitmap.{port_bit, bitmap_bits, bitmap_of}
 use Rattle.ports.specs.Claims.{PortsClaims}
-use Rattle.ports.proofs.Front.{drop-front, length_front, get_d_front}
+use Rattle.ports.proofs.Front.{drop_front, length_front, get_d_front}
 
 -- a number is from 1 to 7, or outside
-pub by-range : (P : Bool → Type 0) (n : ℕ) → (1 ≤ n → n ≤ 7 → P true) → P false → P (one_to_seven n)
-by-range P n i o = go (leb 1 n) (leb n 7) refl refl
+pub by_range : (P : Bool → Type 0) (n : ℕ) → (1 ≤ n → n ≤ 7 → P true) → P false → P (one_to_seven n)
+by_range P n i o = go (leb 1 n) (leb n 7) refl refl
   where
     go : (a b : Bool) → leb 1 n ≡ a → leb n 7 ≡ b → P (a && b)
     go true true e f = i (leb-true 1 n e) (leb-true n 7 f)
@@ -39,31 +39,31 @@ pub set-port : (ps : List Port) (n : PortNumber) (p : Port) → 1 ≤ n.0 → n.
 unfolding with_port
 set-port ps n p h g = rw (le-leb 1 n.0 h, le-leb n.0 7 g)
 
-new-at : (m : PortNumber) → port_at new_ports m ≡ new_port
+new_at : (m : PortNumber) → port_at new_ports m ≡ new_port
 unfolding port_at
-new-at m =
-    by-range (λ b. cond b (get_or new_ports (m.0 - 1) new_port) new_port ≡ new_port) m.0
+new_at m =
+    by_range (λ b. cond b (get_or new_ports (m.0 - 1) new_port) new_port ≡ new_port) m.0
     (λ h g. get_or-replicate 7 (m.0 - 1) new_port new_port (omega arith))
     refl
 
-sweep-spares : (w : Sweep) (n : ℕ) (ps : List Port) → drop n (swept w n ps) ≡ drop n ps
+sweep_spares : (w : Sweep) (n : ℕ) (ps : List Port) → drop n (swept w n ps) ≡ drop n ps
 unfolding swept
-sweep-spares w n ps = drop-front (swept_by w) n ps
+sweep_spares w n ps = drop_front (swept_by w) n ps
 
-sweep-length : (w : Sweep) (n : ℕ) (ps : List Port) → length (swept w n ps) ≡ length ps
+sweep_length : (w : Sweep) (n : ℕ) (ps : List Port) → length (swept w n ps) ≡ length ps
 unfolding swept
-sweep-length w n ps = length_front (swept_by w) n ps
+sweep_length w n ps = length_front (swept_by w) n ps
 
-sweep-steps : (w : Sweep) (n : ℕ) (ps : List Port) (m : PortNumber) → length ps ≡ 7 → n ≤ 7 → Among n m
+sweep_steps : (w : Sweep) (n : ℕ) (ps : List Port) (m : PortNumber) → length ps ≡ 7 → n ≤ 7 → Among n m
     → port_at (swept w n ps) m ≡ swept_by w (port_at ps m)
 unfolding swept
-sweep-steps w n ps m l h g =
+sweep_steps w n ps m l h g =
     at-port (swept w n ps) m g.0 (omega arith)
     ∙ get_d_front (swept_by w) n (m.0 - 1) ps new_port (omega arith) (omega arith)
     ∙ ap (swept_by w) (sym (at-port ps m g.0 (omega arith)))
 
-set-read : (ps : List Port) (n : PortNumber) (p : Port) → length ps ≡ 7 → Among 7 n → port_at (with_port ps n p) n ≡ p
-set-read ps n p l h =
+set_read : (ps : List Port) (n : PortNumber) (p : Port) → length ps ≡ 7 → Among 7 n → port_at (with_port ps n p) n ≡ p
+set_read ps n p l h =
     at-port (with_port ps n p) n h.0 h.1
     ∙ ap (λ (qs : List Port). get_or qs (n.0 - 1) new_port) (set-port ps n p h.0 h.1)
     ∙ get_or-set_same ps (n.0 - 1) p new_port (omega arith)
@@ -77,45 +77,45 @@ put_back ps n =
       | false ↦ refl
     ]
 
-set-length : (ps : List Port) (n : PortNumber) (p : Port) → length (with_port ps n p) ≡ length ps
+set_length : (ps : List Port) (n : PortNumber) (p : Port) → length (with_port ps n p) ≡ length ps
 unfolding with_port
-set-length ps n p = by-range (λ b. length (cond b (set ps (n.0 - 1) p) ps) ≡ length ps) n.0 (λ h g. length-set ps (n.0 - 1) p) refl
+set_length ps n p = by_range (λ b. length (cond b (set ps (n.0 - 1) p) ps) ≡ length ps) n.0 (λ h g. length-set ps (n.0 - 1) p) refl
 
-others-kept : (ps : List Port) (n m : PortNumber) (p : Port) → ¬ (m.0 ≡ n.0) → port_at (with_port ps n p) m ≡ port_at ps m
+others_kept : (ps : List Port) (n m : PortNumber) (p : Port) → ¬ (m.0 ≡ n.0) → port_at (with_port ps n p) m ≡ port_at ps m
 unfolding port_at with_port
-others-kept ps n m p d =
-    by-range (λ b. cond b (get_or (with_port ps n p) (m.0 - 1) new_port) new_port ≡ cond b (get_or ps (m.0 - 1) new_port) new_port) m.0
+others_kept ps n m p d =
+    by_range (λ b. cond b (get_or (with_port ps n p) (m.0 - 1) new_port) new_port ≡ cond b (get_or ps (m.0 - 1) new_port) new_port) m.0
     (λ h g.
-    by-range (λ b. get_or (cond b (set ps (n.0 - 1) p) ps) (m.0 - 1) new_port ≡ get_or ps (m.0 - 1) new_port) n.0
+    by_range (λ b. get_or (cond b (set ps (n.0 - 1) p) ps) (m.0 - 1) new_port ≡ get_or ps (m.0 - 1) new_port) n.0
     (λ i j. get_or-set_other ps (n.0 - 1) (m.0 - 1) p new_port (λ e. d (omega arith)))
     refl)
     refl
 
-bit-at-most-1 : (b : Bool) → bit b ≤ 1
-bit-at-most-1 true = omega arith
-bit-at-most-1 false = omega arith
+bit-at_most_1 : (b : Bool) → bit b ≤ 1
+bit-at_most_1 true = omega arith
+bit-at_most_1 false = omega arith
 
-byte-of-8 : (b0 b1 b2 b3 b4 b5 b6 b7 : Bool) → byte_of (b0 ∷ b1 ∷ b2 ∷ b3 ∷ b4 ∷ b5 ∷ b6 ∷ b7 ∷ []) < 256
-byte-of-8 b0 b1 b2 b3 b4 b5 b6 b7 =
+byte_of_8 : (b0 b1 b2 b3 b4 b5 b6 b7 : Bool) → byte_of (b0 ∷ b1 ∷ b2 ∷ b3 ∷ b4 ∷ b5 ∷ b6 ∷ b7 ∷ []) < 256
+byte_of_8 b0 b1 b2 b3 b4 b5 b6 b7 =
     omega (
       arith,
-      bit-at-most-1 b0,
-      bit-at-most-1 b1,
-      bit-at-most-1 b2,
-      bit-at-most-1 b3,
-      bit-at-most-1 b4,
-      bit-at-most-1 b5,
-      bit-at-most-1 b6,
-      bit-at-most-1 b7,
+      bit-at_most_1 b0,
+      bit-at_most_1 b1,
+      bit-at_most_1 b2,
+      bit-at_most_1 b3,
+      bit-at_most_1 b4,
+      bit-at_most_1 b5,
+      bit-at_most_1 b6,
+      bit-at_most_1 b7,
     )
 
-bitmap-byte : (n : ℕ) (ps : List Port) → bitmap_of n ps < 256
+bitmap_byte : (n : ℕ) (ps : List Port) → bitmap_of n ps < 256
 unfolding bitmap_of
-bitmap-byte n ps = byte-of-8 false (port_bit n ps 1) (port_bit n ps 2) (port_bit n ps 3) (port_bit n ps 4) (port_bit n ps 5) (port_bit n ps 6) (port_bit n ps 7)
+bitmap_byte n ps = byte_of_8 false (port_bit n ps 1) (port_bit n ps 2) (port_bit n ps 3) (port_bit n ps 4) (port_bit n ps 5) (port_bit n ps 6) (port_bit n ps 7)
 
-pub bitmap-bits : (n : ℕ) (ps : List Port) → bits_of 8 (bitmap_of n ps) ≡ bitmap_bits n ps
+pub bitmap_bits_lem : (n : ℕ) (ps : List Port) → bits_of 8 (bitmap_of n ps) ≡ bitmap_bits n ps
 unfolding bitmap_of
-bitmap-bits n ps = bits_back (bitmap_bits n ps)
+bitmap_bits_lem n ps = bits_back (bitmap_bits n ps)
 
 -- by the number of a bit, 0 to 7, or past them
 pub by_bit : (P : ℕ → Type 0) → P 0 → P 1 → P 2 → P 3 → P 4 → P 5 → P 6 → P 7 → ((i : ℕ) → P (suc (suc (suc (suc (suc (suc (suc (suc i))))))))) → (n : ℕ) → P n
@@ -134,56 +134,56 @@ bits_at n ps =
     by_bit (λ m. 1 ≤ m → m ≤ 7 → get_or (bitmap_bits n ps) m false ≡ port_bit n ps m) (λ h g. absurd (omega arith))
     (λ h g. refl) (λ h g. refl) (λ h g. refl) (λ h g. refl) (λ h g. refl) (λ h g. refl) (λ h g. refl) (λ i h g. absurd (omega arith))
 
-bitmap-bit : (n : ℕ) (ps : List Port) (m : PortNumber) → Among 7 m → get_or (bits_of 8 (bitmap_of n ps)) m.0 false ≡ port_bit n ps m.0
-bitmap-bit n ps m h = ap (λ (bs : List Bool). get_or bs m.0 false) (bitmap-bits n ps) ∙ bits_at n ps m.0 h.0 h.1
+bitmap_bit_lem : (n : ℕ) (ps : List Port) (m : PortNumber) → Among 7 m → get_or (bits_of 8 (bitmap_of n ps)) m.0 false ≡ port_bit n ps m.0
+bitmap_bit_lem n ps m h = ap (λ (bs : List Bool). get_or bs m.0 false) (bitmap_bits_lem n ps) ∙ bits_at n ps m.0 h.0 h.1
 
-pub all-zero : (bs : List Bool) → ((i : ℕ) → get_or bs i false ≡ false) → byte_of bs ≡ 0
-all-zero [] h = refl
-all-zero (true ∷ bs) h = absurd (true≢false (h 0))
-all-zero (false ∷ bs) h = rw (all-zero bs (λ i. h (suc i)))
+pub all_zero : (bs : List Bool) → ((i : ℕ) → get_or bs i false ≡ false) → byte_of bs ≡ 0
+all_zero [] h = refl
+all_zero (true ∷ bs) h = absurd (true≢false (h 0))
+all_zero (false ∷ bs) h = rw (all_zero bs (λ i. h (suc i)))
 
 -- the bits of 0 are zero
-pub none-of-0 : (i : ℕ) → get_or (bits_of 8 0) i false ≡ false
-none-of-0 = by_bit (λ i. get_or (bits_of 8 0) i false ≡ false) refl refl refl refl refl refl refl refl (λ i. refl)
+pub none_of_0 : (i : ℕ) → get_or (bits_of 8 0) i false ≡ false
+none_of_0 = by_bit (λ i. get_or (bits_of 8 0) i false ≡ false) refl refl refl refl refl refl refl refl (λ i. refl)
 
 module _ (n : ℕ) (ps : List Port) where
   abbrev Unchanged : Type 0
   Unchanged = (m : PortNumber) → Among n m → has_change (port_at ps m).changes ≡ false
 
-  bit-zero : Unchanged → (p : ℕ) → 1 ≤ p → port_bit n ps p ≡ false
-  bit-zero h p g = go (leb p n) refl
+  bit_zero : Unchanged → (p : ℕ) → 1 ≤ p → port_bit n ps p ≡ false
+  bit_zero h p g = go (leb p n) refl
     where
       go : (b : Bool) → leb p n ≡ b → (b && has_change (port_at ps (record { 0 = p })).changes) ≡ false
       go true e = h (record { 0 = p }) (g, leb-true p n e)
       go false e = refl
 
-  bits-zero : Unchanged → (i : ℕ) → get_or (bitmap_bits n ps) i false ≡ false
-  bits-zero h =
+  bits_zero : Unchanged → (i : ℕ) → get_or (bitmap_bits n ps) i false ≡ false
+  bits_zero h =
       by_bit (λ i. get_or (bitmap_bits n ps) i false ≡ false) refl
-      (bit-zero h 1 (omega arith)) (bit-zero h 2 (omega arith)) (bit-zero h 3 (omega arith)) (bit-zero h 4 (omega arith))
-      (bit-zero h 5 (omega arith)) (bit-zero h 6 (omega arith)) (bit-zero h 7 (omega arith)) (λ i. refl)
+      (bit_zero h 1 (omega arith)) (bit_zero h 2 (omega arith)) (bit_zero h 3 (omega arith)) (bit_zero h 4 (omega arith))
+      (bit_zero h 5 (omega arith)) (bit_zero h 6 (omega arith)) (bit_zero h 7 (omega arith)) (λ i. refl)
 
-  bitmap-zero : Unchanged → bitmap_of n ps ≡ 0
+  bitmap_zero : Unchanged → bitmap_of n ps ≡ 0
   unfolding bitmap_of
-  bitmap-zero h = all-zero (bitmap_bits n ps) (bits-zero h)
+  bitmap_zero h = all_zero (bitmap_bits n ps) (bits_zero h)
 
-  zero-unchanged : n ≤ 7 → bitmap_of n ps ≡ 0 → Unchanged
-  zero-unchanged l e m h =
-      let z : port_bit n ps m.0 ≡ false = sym (bitmap-bit n ps m (h.0, omega arith)) ∙ ap (λ (k : ℕ). get_or (bits_of 8 k) m.0 false) e ∙ none-of-0 m.0 in
+  zero_unchanged : n ≤ 7 → bitmap_of n ps ≡ 0 → Unchanged
+  zero_unchanged l e m h =
+      let z : port_bit n ps m.0 ≡ false = sym (bitmap_bit_lem n ps m (h.0, omega arith)) ∙ ap (λ (k : ℕ). get_or (bits_of 8 k) m.0 false) e ∙ none_of_0 m.0 in
       rw (le-leb m.0 n h.1) at z
 
-pub ports-claims : PortsClaims
-ports-claims =
+pub ports_claims_lem : PortsClaims
+ports_claims_lem =
     record {
-      new-at = new-at;
-      sweep-spares = sweep-spares;
-      sweep-length = sweep-length;
-      sweep-steps = sweep-steps;
-      set-read = set-read;
-      others-kept = others-kept;
-      set-length = set-length;
-      bitmap-byte = bitmap-byte;
-      bitmap-bit-0 = λ n ps. ap (λ (bs : List Bool). get_or bs 0 false) (bitmap-bits n ps);
-      bitmap-bit = bitmap-bit;
-      bitmap-none = λ n ps l. (zero-unchanged n ps l, bitmap-zero n ps);
+      new_at = new_at;
+      sweep_spares = sweep_spares;
+      sweep_length = sweep_length;
+      sweep_steps = sweep_steps;
+      set_read = set_read;
+      others_kept = others_kept;
+      set_length = set_length;
+      bitmap_byte = bitmap_byte;
+      bitmap_bit_0 = λ n ps. ap (λ (bs : List Bool). get_or bs 0 false) (bitmap_bits_lem n ps);
+      bitmap_bit_lem = bitmap_bit_lem;
+      bitmap_none = λ n ps l. (zero_unchanged n ps l, bitmap_zero n ps);
     }

@@ -11,7 +11,7 @@ use lib.ListN.{length, get_or, take, drop, replicate, length-append, length-drop
 use lib.Seq.{take_all, take-add, take_at, drop_at, drop-drop, drop-append-add, get_or-take, get_or_at, get_or-append-add, length-take-le, take-append_seam, drop-append_seam}
 use Rattle.hub.specs.Call.{Call}
 use Rattle.area_check.specs.Rows.{blank}
-use Rattle.area_check.proofs.Rows.{blank-to, blank_of}
+use Rattle.area_check.proofs.Rows.{blank_to, blank_of}
 use Rattle.call_bytes.specs.Words.{half, half_at}
 use Rattle.call_bytes.specs.Written.{Bytes}
 use Rattle.call_bytes.proofs.Words.{half_of, half-take}
@@ -22,7 +22,7 @@ use Rattle.recording.specs.Written.{written_all, AllFit, sum_to, count_of, used_
 use Rattle.recording.specs.Calls.{calls_of, is_some, listed}
 use Rattle.recording.specs.Block.{length_fits, check_fits, number_fits, count_fits, records_fit, verdict_for, verdict_of, is_good, calls_at}
 use Rattle.recording.specs.Claims.{BlockExact}
-use Rattle.recording.proofs.Rows.{back, calls-exact}
+use Rattle.recording.proofs.Rows.{back, calls_exact_lem}
 
 -- ---- the five tests, each by itself
 
@@ -35,9 +35,9 @@ pub record Passed (p : ℕ) (l : List ℕ) : Type 0 where
   pub zeros : blank (drop (4 + count_of l) (take 510 l)) ≡ true
   pub records : is_some (calls_of (used_of l)) ≡ true
 
-pub not-zero : (p : ℕ) → not (eqb p 0) ≡ true → 1 ≤ p
-not-zero zero e = absurd (false≢true e)
-not-zero (suc p) e = omega arith
+pub not_zero : (p : ℕ) → not (eqb p 0) ≡ true → 1 ≤ p
+not_zero zero e = absurd (false≢true e)
+not_zero (suc p) e = omega arith
 
 pub passed : (p : ℕ) (l : List ℕ) → is_good (verdict_of p l) ≡ true → Passed p l
 unfolding verdict_for
@@ -57,7 +57,7 @@ passed p l e = go (length_fits l) refl (check_fits l) refl (number_fits p l) ref
         record {
           long = eqb-true (length l) 512 s;
           check = eqb-true (sum_to l 256 % 65536) 0 t;
-          first = not-zero p n.0;
+          first = not_zero p n.0;
           number = eqb-true (half_at l 0) p n.1;
           few = leb-true (count_of l) 506 k.0;
           zeros = k.1;
@@ -78,14 +78,14 @@ good p l q =
       q.records,
     )
 
-is-good : (v : Verdict) → v ≡ Good → is_good v ≡ true
-is-good v e = ap is_good e
+is_good_lem : (v : Verdict) → v ≡ Good → is_good v ≡ true
+is_good_lem v e = ap is_good e
 
 -- ---- sums
 
-sum-suc : (l : List ℕ) (n : ℕ) → sum_to l (suc n) ≡ sum_to l n + half_at l (2 * n)
+sum_suc : (l : List ℕ) (n : ℕ) → sum_to l (suc n) ≡ sum_to l n + half_at l (2 * n)
 unfolding sum_to
-sum-suc l n = refl
+sum_suc l n = refl
 
 -- only the first 2 n bytes count
 sum-take : (l : List ℕ) (m n : ℕ) → 2 * n ≤ m → sum_to (take m l) n ≡ sum_to l n
@@ -95,14 +95,14 @@ sum-take l m (suc n) h =
     ap₂ ◌+◌ (sum-take l m n (omega (arith, h)))
     (ap₂ (λ (a b : ℕ). a + b * 256) (get_or-take m l (2 * n) 0 (omega (arith, h))) (get_or-take m l (2 * n + 1) 0 (omega (arith, h))))
 
-sum-all : (l : List ℕ) → sum_to l 256 ≡ sum_to (take 510 l) 255 + half_at l 510
-sum-all l = sum-suc l 255 ∙ ap (λ (s : ℕ). s + half_at l 510) (sym (sum-take l 510 255 (omega arith)))
+sum_all : (l : List ℕ) → sum_to l 256 ≡ sum_to (take 510 l) 255 + half_at l 510
+sum_all l = sum_suc l 255 ∙ ap (λ (s : ℕ). s + half_at l 510) (sym (sum-take l 510 255 (omega arith)))
 
-check-to : (s v : ℕ) → v < 65536 → (s + v) % 65536 ≡ 0 → v ≡ (65536 - s % 65536) % 65536
-check-to s v h e = omega arith
+check_to : (s v : ℕ) → v < 65536 → (s + v) % 65536 ≡ 0 → v ≡ (65536 - s % 65536) % 65536
+check_to s v h e = omega arith
 
-check-of : (s : ℕ) → (s + (65536 - s % 65536) % 65536) % 65536 ≡ 0
-check-of s = omega arith
+check_of_lem : (s : ℕ) → (s + (65536 - s % 65536) % 65536) % 65536 ≡ 0
+check_of_lem s = omega arith
 
 -- ---- a good block is a written form
 
@@ -132,13 +132,13 @@ module _ (l : List ℕ) (b : Bytes l) (long : length l ≡ 512) where
         ∙ take-add 2 (2 + (count_of l + (506 - count_of l))) l
         ∙ ap₂ ◌++◌ (sym (half-take l 0 b (omega (arith, long)))) second
       where
-        behind-size : length (take (506 - count_of l) (drop (4 + count_of l) l)) ≡ 506 - count_of l
-        behind-size = length-take-le (506 - count_of l) (drop (4 + count_of l) l) (omega (arith, length-drop (4 + count_of l) l, long, few))
+        behind_size : length (take (506 - count_of l) (drop (4 + count_of l) l)) ≡ 506 - count_of l
+        behind_size = length-take-le (506 - count_of l) (drop (4 + count_of l) l) (omega (arith, length-drop (4 + count_of l) l, long, few))
 
         unused : take (506 - count_of l) (drop (4 + count_of l) l) ≡ replicate (506 - length (used_of l)) 0
         unused =
-            blank-to (take (506 - count_of l) (drop (4 + count_of l) l)) (ap blank (sym behind) ∙ z)
-            ∙ ap (λ (m : ℕ). replicate m 0) (behind-size ∙ ap (λ (m : ℕ). 506 - m) (sym size))
+            blank_to (take (506 - count_of l) (drop (4 + count_of l) l)) (ap blank (sym behind) ∙ z)
+            ∙ ap (λ (m : ℕ). replicate m 0) (behind_size ∙ ap (λ (m : ℕ). 506 - m) (sym size))
 
         third : take (count_of l + (506 - count_of l)) (drop 2 (drop 2 l)) ≡ padded (used_of l)
         third =
@@ -151,9 +151,9 @@ module _ (l : List ℕ) (b : Bytes l) (long : length l ≡ 512) where
             take-add 2 (count_of l + (506 - count_of l)) (drop 2 l)
             ∙ ap₂ ◌++◌ (sym (half-take l 2 b (omega (arith, long))) ∙ ap half (sym size)) third
 
-pub some-listed : (o : Option (List Call)) → is_some o ≡ true → o ≡ some (listed o)
-some-listed none e = absurd (false≢true e)
-some-listed (some cs) e = refl
+pub some_listed : (o : Option (List Call)) → is_some o ≡ true → o ≡ some (listed o)
+some_listed none e = absurd (false≢true e)
+some_listed (some cs) e = refl
 
 -- what the bytes in front of the check are, where count and records fit
 pub record Filled (l : List ℕ) : Type 0 where
@@ -173,11 +173,11 @@ filled l b long few zeros records =
     }
   where
     rows : AllFit (calls_at l) × (used_of l ≡ written_all (calls_at l))
-    rows = (calls-exact (used_of l) (calls_at l) (bytes_take (drop 4 l) (count_of l) (bytes_drop l 4 b))).0 (some-listed (calls_of (used_of l)) records)
+    rows = (calls_exact_lem (used_of l) (calls_at l) (bytes_take (drop 4 l) (count_of l) (bytes_drop l 4 b))).0 (some_listed (calls_of (used_of l)) records)
 
-good-is-block : (p : ℕ) (l : List ℕ) → Bytes l → Passed p l → IsBlock p (calls_at l) l
+good_is_block : (p : ℕ) (l : List ℕ) → Bytes l → Passed p l → IsBlock p (calls_at l) l
 unfolding block_of
-good-is-block p l b q =
+good_is_block p l b q =
     record {
       writable = record { first = q.first; last = omega (arith, q.number, half_lt l 0 b); fit = f.fit; room = f.room };
       form =
@@ -190,7 +190,7 @@ good-is-block p l b q =
     f = filled l b q.long q.few q.zeros q.records
 
     check : half_at l 510 ≡ check_of (take 510 l)
-    check = check-to (sum_to (take 510 l) 255) (half_at l 510) (half_lt l 510 b) (ap (λ (s : ℕ). s % 65536) (sym (sum-all l)) ∙ q.check)
+    check = check_to (sum_to (take 510 l) 255) (half_at l 510) (half_lt l 510 b) (ap (λ (s : ℕ). s % 65536) (sym (sum_all l)) ∙ q.check)
 
 -- ---- a written form is a good block
 
@@ -199,73 +199,73 @@ module _ (p : ℕ) (u : List ℕ) (v : ℕ) (room : length u ≤ 506) where
   abbrev pub made : List ℕ
   made = unchecked p u ++ half v
 
-  body-length : length (padded u) ≡ 506
-  body-length = omega (arith, length-append u (replicate (506 - length u) 0), length-replicate {A = ℕ} (506 - length u) 0, room)
+  body_length : length (padded u) ≡ 506
+  body_length = omega (arith, length-append u (replicate (506 - length u) 0), length-replicate {A = ℕ} (506 - length u) 0, room)
 
   pub front_length : length (unchecked p u) ≡ 510
   unfolding unchecked
-  front_length = omega (arith, body-length)
+  front_length = omega (arith, body_length)
 
-  pub made-length : length made ≡ 512
-  made-length = omega (arith, length-append (unchecked p u) (half v), front_length)
+  pub made_length : length made ≡ 512
+  made_length = omega (arith, length-append (unchecked p u) (half v), front_length)
 
-  pub made-number : p ≤ 65535 → half_at made 0 ≡ p
+  pub made_number : p ≤ 65535 → half_at made 0 ≡ p
   unfolding unchecked
-  made-number small = half_of p (omega (arith, small))
+  made_number small = half_of p (omega (arith, small))
 
-  pub made-count : count_of made ≡ length u
+  pub made_count : count_of made ≡ length u
   unfolding unchecked
-  made-count = half_of (length u) (omega (arith, room))
+  made_count = half_of (length u) (omega (arith, room))
 
-  pub made-used : used_of made ≡ u
+  pub made_used : used_of made ≡ u
   unfolding unchecked
-  made-used =
-      ap (λ (n : ℕ). take n (drop 4 made)) made-count
+  made_used =
+      ap (λ (n : ℕ). take n (drop 4 made)) made_count
       ∙ ap (take (length u)) (append_assoc u (replicate (506 - length u) 0) (half v))
       ∙ take-append_seam u (replicate (506 - length u) 0 ++ half v)
 
-  pub made-front : take 510 made ≡ unchecked p u
-  made-front = take_at (unchecked p u) (half v) 510 front_length
+  pub made_front : take 510 made ≡ unchecked p u
+  made_front = take_at (unchecked p u) (half v) 510 front_length
 
-  made-apart : drop (4 + length u) (unchecked p u) ≡ replicate (506 - length u) 0
+  made_apart : drop (4 + length u) (unchecked p u) ≡ replicate (506 - length u) 0
   unfolding unchecked
-  made-apart = drop-append-add (half p ++ half (length u)) (padded u) (length u) ∙ drop-append_seam u (replicate (506 - length u) 0)
+  made_apart = drop-append-add (half p ++ half (length u)) (padded u) (length u) ∙ drop-append_seam u (replicate (506 - length u) 0)
 
-  pub made-zeros : blank (drop (4 + count_of made) (take 510 made)) ≡ true
-  made-zeros =
-      ap₂ (λ (n : ℕ) (x : List ℕ). blank (drop (4 + n) x)) made-count made-front ∙ ap blank made-apart ∙ blank_of (506 - length u)
+  pub made_zeros : blank (drop (4 + count_of made) (take 510 made)) ≡ true
+  made_zeros =
+      ap₂ (λ (n : ℕ) (x : List ℕ). blank (drop (4 + n) x)) made_count made_front ∙ ap blank made_apart ∙ blank_of (506 - length u)
 
-  pub made-last : v ≤ 65535 → half_at made 510 ≡ v
-  made-last small =
+  pub made_last : v ≤ 65535 → half_at made 510 ≡ v
+  made_last small =
       ap₂ (λ (a b : ℕ). a + b * 256) (get_or_at (unchecked p u) (v % 256) (v / 256 % 256 ∷ []) 0 510 front_length)
       (ap (λ (n : ℕ). get_or made (n + 1) 0) (sym front_length) ∙ get_or-append-add (unchecked p u) (half v) 1 0)
       ∙ half_of v (omega (arith, small))
 
-  pub made-sum : sum_to made 255 ≡ sum_to (unchecked p u) 255
-  made-sum = sym (sum-take made 510 255 (omega arith)) ∙ ap (λ (x : List ℕ). sum_to x 255) made-front
+  pub made_sum : sum_to made 255 ≡ sum_to (unchecked p u) 255
+  made_sum = sym (sum-take made 510 255 (omega arith)) ∙ ap (λ (x : List ℕ). sum_to x 255) made_front
 
   -- calls that have a written form are read back
-  pub made-calls : (cs : List Call) → u ≡ written_all cs → AllFit cs → calls_of (used_of made) ≡ some cs
-  made-calls cs is fit = ap calls_of (made-used ∙ is) ∙ back cs fit
+  pub made_calls : (cs : List Call) → u ≡ written_all cs → AllFit cs → calls_of (used_of made) ≡ some cs
+  made_calls cs is fit = ap calls_of (made_used ∙ is) ∙ back cs fit
 
-pub check-fits : (p : ℕ) (u : List ℕ) (room : length u ≤ 506) → sum_to (made p u (check_of (unchecked p u)) room) 256 % 65536 ≡ 0
-check-fits p u room =
+pub check_fits_lem : (p : ℕ) (u : List ℕ) (room : length u ≤ 506) → sum_to (made p u (check_of (unchecked p u)) room) 256 % 65536 ≡ 0
+check_fits_lem p u room =
     ap (λ (s : ℕ). s % 65536)
-    (sum-suc (made p u (check_of (unchecked p u)) room) 255
-    ∙ ap₂ ◌+◌ (made-sum p u (check_of (unchecked p u)) room) (made-last p u (check_of (unchecked p u)) room (omega arith)))
-    ∙ check-of (sum_to (unchecked p u) 255)
+    (sum_suc (made p u (check_of (unchecked p u)) room) 255
+    ∙ ap₂ ◌+◌ (made_sum p u (check_of (unchecked p u)) room) (made_last p u (check_of (unchecked p u)) room (omega arith)))
+    ∙ check_of_lem (sum_to (unchecked p u) 255)
 
-pub block-is-good : (p : ℕ) (cs : List Call) → Writable p cs → (verdict_of p (block_of p cs) ≡ Good) × (calls_at (block_of p cs) ≡ cs)
+pub block_is_good : (p : ℕ) (cs : List Call) → Writable p cs → (verdict_of p (block_of p cs) ≡ Good) × (calls_at (block_of p cs) ≡ cs)
 unfolding block_of
-block-is-good p cs w = (
+block_is_good p cs w = (
   good p (made p u v w.room)
       (record {
-        long = made-length p u v w.room;
-        check = check-fits p u w.room;
+        long = made_length p u v w.room;
+        check = check_fits_lem p u w.room;
         first = w.first;
-        number = made-number p u v w.room w.last;
-        few = omega (arith, made-count p u v w.room, w.room);
-        zeros = made-zeros p u v w.room;
+        number = made_number p u v w.room w.last;
+        few = omega (arith, made_count p u v w.room, w.room);
+        zeros = made_zeros p u v w.room;
         records = ap is_some calls;
       }),
   ap listed calls,
@@ -278,17 +278,17 @@ block-is-good p cs w = (
     v = check_of (unchecked p (written_all cs))
 
     calls : calls_of (used_of (made p (written_all cs) (check_of (unchecked p (written_all cs))) w.room)) ≡ some cs
-    calls = made-calls p u v w.room cs refl w.fit
+    calls = made_calls p u v w.room cs refl w.fit
 
-pub block-exact : BlockExact
-block-exact =
+pub block_exact_lem : BlockExact
+block_exact_lem =
     record {
       exact = λ p l cs b. (
-        λ g. subst (λ (ds : List Call). IsBlock p ds l) g.1 (good-is-block p l b (passed p l (is-good (verdict_of p l) g.0))),
-        λ i. subst (λ (m : List ℕ). (verdict_of p m ≡ Good) × (calls_at m ≡ cs)) (sym i.form) (block-is-good p cs i.writable),
+        λ g. subst (λ (ds : List Call). IsBlock p ds l) g.1 (good_is_block p l b (passed p l (is_good_lem (verdict_of p l) g.0))),
+        λ i. subst (λ (m : List ℕ). (verdict_of p m ≡ Good) × (calls_at m ≡ cs)) (sym i.form) (block_is_good p cs i.writable),
       );
       refused = λ p l b. (
-        λ n cs i. n (subst (λ (m : List ℕ). verdict_of p m ≡ Good) (sym i.form) (block-is-good p cs i.writable).0),
-        λ n g. n (calls_at l) (good-is-block p l b (passed p l (is-good (verdict_of p l) g))),
+        λ n cs i. n (subst (λ (m : List ℕ). verdict_of p m ≡ Good) (sym i.form) (block_is_good p cs i.writable).0),
+        λ n g. n (calls_at l) (good_is_block p l b (passed p l (is_good_lem (verdict_of p l) g))),
       );
     }

@@ -10,22 +10,22 @@ use Rattle.recording.specs.Calls.{calls_in}
 use Rattle.recording.specs.Block.{verdict_for}
 use Rattle.recording.specs.Cases.{BlockCases}
 
-pub block-cases : BlockCases
+pub block_cases_lem : BlockCases
 unfolding block_of unchecked written_all written_form words sum_to verdict_for blank calls_in read_of is_record kind_of with_tag words_at
-block-cases =
+block_cases_lem =
     record {
-      tick-written = refl;
-      tick-good = refl;
-      tick-calls = refl;
-      empty-good = refl;
+      tick_written = refl;
+      tick_good = refl;
+      tick_calls = refl;
+      empty_good = refl;
       cut = refl;
       damaged = refl;
       misplaced = refl;
       too_many = refl;
-      place-zero = refl;
-      count-507 = refl;
+      place_zero = refl;
+      count_507 = refl;
       unused = refl;
       no_record = refl;
-      number-first = refl;
-      check-first = refl;
+      number_first_lem = refl;
+      check_first = refl;
     }

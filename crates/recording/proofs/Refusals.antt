@@ -18,8 +18,8 @@ use Rattle.recording.specs.Calls.{calls_of, is_some}
 use Rattle.recording.specs.Written.{sum_to, count_of, used_of}
 use Rattle.recording.specs.Block.{length_fits, check_fits, number_fits, count_fits, records_fit, verdict_for, verdict_of, calls_at}
 use Rattle.recording.specs.Refusals.{CountRight, RecordsRight, Right, Told, BlockRefusals}
-use Rattle.recording.proofs.Rows.{back, calls-exact}
-use Rattle.recording.proofs.Blocks.{not-zero, some-listed}
+use Rattle.recording.proofs.Rows.{back, calls_exact_lem}
+use Rattle.recording.proofs.Blocks.{not_zero, some_listed}
 
 -- ---- zeros, byte by byte
 
@@ -37,34 +37,34 @@ at-blank (x ∷ l) z = rw (eq-eqb x 0 (z 0 (omega arith))) (at-blank l (λ i h. 
 -- ---- each test, both ways
 
 module _ (p : ℕ) (l : List ℕ) where
-  number-right : number_fits p l ≡ true → Right BadNumber p l
-  number-right e =
+  number_right : number_fits p l ≡ true → Right BadNumber p l
+  number_right e =
       let n = (and-eq-true_iff (not (eqb p 0)) (eqb (half_at l 0) p)).0 e in
-      (not-zero p n.0, eqb-true (half_at l 0) p n.1)
+      (not_zero p n.0, eqb-true (half_at l 0) p n.1)
 
-  right-number : Right BadNumber p l → number_fits p l ≡ true
-  right-number r =
+  right_number : Right BadNumber p l → number_fits p l ≡ true
+  right_number r =
       let n : ¬ (p ≡ 0) = λ e. absurd (omega (arith, e, r.0)) in
       rw (ne_eqb p 0 n, eq-eqb (half_at l 0) p r.1)
 
   module _ (long : length l ≡ 512) where
-    unused-at : (i : ℕ) → 4 + count_of l ≤ 510 → i < 510 → 4 + count_of l ≤ i
+    unused_at : (i : ℕ) → 4 + count_of l ≤ 510 → i < 510 → 4 + count_of l ≤ i
         → get_or (drop (4 + count_of l) (take 510 l)) (i - (4 + count_of l)) 0 ≡ get_or l i 0
-    unused-at i few h k =
+    unused_at i few h k =
         let e : 4 + count_of l + (i - (4 + count_of l)) ≡ i = omega (arith, k) in
         get_or-drop (4 + count_of l) (take 510 l) (i - (4 + count_of l)) 0 ∙ ap (λ (n : ℕ). get_or (take 510 l) n 0) e ∙ get_or-take 510 l i 0 h
 
-    count-right : count_fits l ≡ true → CountRight l
-    count-right e =
+    count_right : count_fits l ≡ true → CountRight l
+    count_right e =
         let k = (and-eq-true_iff (leb (count_of l) 506) (blank (drop (4 + count_of l) (take 510 l)))).0 e in
         let few : count_of l ≤ 506 = leb-true (count_of l) 506 k.0 in
         record {
           few = few;
-          zeros = λ i b h. sym (unused-at i (omega (arith, few)) h b) ∙ blank-at (drop (4 + count_of l) (take 510 l)) k.1 (i - (4 + count_of l));
+          zeros = λ i b h. sym (unused_at i (omega (arith, few)) h b) ∙ blank-at (drop (4 + count_of l) (take 510 l)) k.1 (i - (4 + count_of l));
         }
 
-    right-count : CountRight l → count_fits l ≡ true
-    right-count r =
+    right_count : CountRight l → count_fits l ≡ true
+    right_count r =
         rw (le-leb (count_of l) 506 r.few)
         (at-blank (drop (4 + count_of l) (take 510 l))
         (λ i h. get_or-drop (4 + count_of l) (take 510 l) i 0 ∙ get_or-take 510 l (4 + count_of l + i) 0 (inside i h) ∙ r.zeros (4 + count_of l + i) (omega arith) (inside i h)))
@@ -73,13 +73,13 @@ module _ (p : ℕ) (l : List ℕ) where
         inside i h =
             omega (arith, h, length-drop (4 + count_of l) (take 510 l), length-take-le 510 l (omega (arith, long)))
 
-  records-right : Bytes l → records_fit l ≡ true → RecordsRight l
-  records-right b e =
-      let r = (calls-exact (used_of l) (calls_at l) (bytes_take (drop 4 l) (count_of l) (bytes_drop l 4 b))).0 (some-listed (calls_of (used_of l)) e) in
+  records_right : Bytes l → records_fit l ≡ true → RecordsRight l
+  records_right b e =
+      let r = (calls_exact_lem (used_of l) (calls_at l) (bytes_take (drop 4 l) (count_of l) (bytes_drop l 4 b))).0 (some_listed (calls_of (used_of l)) e) in
       record { calls = calls_at l; fit = r.0; form = r.1 }
 
-  right-records : RecordsRight l → records_fit l ≡ true
-  right-records r = ap (λ (u : List ℕ). is_some (calls_of u)) r.form ∙ ap is_some (back r.calls r.fit)
+  right_records : RecordsRight l → records_fit l ≡ true
+  right_records r = ap (λ (u : List ℕ). is_some (calls_of u)) r.form ∙ ap is_some (back r.calls r.fit)
 
 -- ---- what is told
 
@@ -95,50 +95,50 @@ told p l b = go (length_fits l) refl (check_fits l) refl (number_fits p l) refl 
         → Told (cond a (cond c (cond (true && not n) BadNumber (cond d (cond f Good BadRecord) BadCount)) BadCheck) BadLength) p l
     go false s c t n u d v f w = no (eq-eqb (length l) 512) s
     go true s false t n u d v f w = (eqb-true (length l) 512 s, no (eq-eqb (sum_to l 256 % 65536) 0) t)
-    go true s true t false u d v f w = (eqb-true (length l) 512 s, (eqb-true (sum_to l 256 % 65536) 0 t, no (right-number p l) u))
+    go true s true t false u d v f w = (eqb-true (length l) 512 s, (eqb-true (sum_to l 256 % 65536) 0 t, no (right_number p l) u))
     go true s true t true u false v f w =
         let long = eqb-true (length l) 512 s in
-        (long, (eqb-true (sum_to l 256 % 65536) 0 t, (number-right p l u, no (right-count p l long) v)))
+        (long, (eqb-true (sum_to l 256 % 65536) 0 t, (number_right p l u, no (right_count p l long) v)))
     go true s true t true u true v false w =
         let long = eqb-true (length l) 512 s in
-        (long, (eqb-true (sum_to l 256 % 65536) 0 t, (number-right p l u, (count-right p l long v, no (right-records p l) w))))
+        (long, (eqb-true (sum_to l 256 % 65536) 0 t, (number_right p l u, (count_right p l long v, no (right_records p l) w))))
     go true s true t true u true v true w =
         let long = eqb-true (length l) 512 s in
-        (long, (eqb-true (sum_to l 256 % 65536) 0 t, (number-right p l u, (count-right p l long v, records-right p l b w))))
+        (long, (eqb-true (sum_to l 256 % 65536) 0 t, (number_right p l u, (count_right p l long v, records_right p l b w))))
 
 not_so : (x : Bool) → ¬ (x ≡ true) → x ≡ false
 not_so true n = absurd (n refl)
 not_so false n = refl
 
-is-told : (v : Verdict) (p : ℕ) (l : List ℕ) → Bytes l → Told v p l → verdict_of p l ≡ v
+is_told : (v : Verdict) (p : ℕ) (l : List ℕ) → Bytes l → Told v p l → verdict_of p l ≡ v
 unfolding verdict_for
-is-told BadLength p l b t = rw (ne_eqb (length l) 512 t)
-is-told BadCheck p l b t = rw (eq-eqb (length l) 512 t.0, ne_eqb (sum_to l 256 % 65536) 0 t.1)
-is-told BadNumber p l b t =
-    rw (eq-eqb (length l) 512 t.0, eq-eqb (sum_to l 256 % 65536) 0 t.1.0, not_so (number_fits p l) (λ e. t.1.1 (number-right p l e)))
-is-told BadCount p l b t =
+is_told BadLength p l b t = rw (ne_eqb (length l) 512 t)
+is_told BadCheck p l b t = rw (eq-eqb (length l) 512 t.0, ne_eqb (sum_to l 256 % 65536) 0 t.1)
+is_told BadNumber p l b t =
+    rw (eq-eqb (length l) 512 t.0, eq-eqb (sum_to l 256 % 65536) 0 t.1.0, not_so (number_fits p l) (λ e. t.1.1 (number_right p l e)))
+is_told BadCount p l b t =
     rw (
       eq-eqb (length l) 512 t.0,
       eq-eqb (sum_to l 256 % 65536) 0 t.1.0,
-      right-number p l t.1.1.0,
-      not_so (count_fits l) (λ e. t.1.1.1 (count-right p l t.0 e)),
+      right_number p l t.1.1.0,
+      not_so (count_fits l) (λ e. t.1.1.1 (count_right p l t.0 e)),
     )
-is-told BadRecord p l b t =
+is_told BadRecord p l b t =
     rw (
       eq-eqb (length l) 512 t.0,
       eq-eqb (sum_to l 256 % 65536) 0 t.1.0,
-      right-number p l t.1.1.0,
-      right-count p l t.0 t.1.1.1.0,
-      not_so (records_fit l) (λ e. t.1.1.1.1 (records-right p l b e)),
+      right_number p l t.1.1.0,
+      right_count p l t.0 t.1.1.1.0,
+      not_so (records_fit l) (λ e. t.1.1.1.1 (records_right p l b e)),
     )
-is-told Good p l b t =
+is_told Good p l b t =
     rw (
       eq-eqb (length l) 512 t.0,
       eq-eqb (sum_to l 256 % 65536) 0 t.1.0,
-      right-number p l t.1.1.0,
-      right-count p l t.0 t.1.1.1.0,
-      right-records p l t.1.1.1.1,
+      right_number p l t.1.1.0,
+      right_count p l t.0 t.1.1.1.0,
+      right_records p l t.1.1.1.1,
     )
 
-pub block-refusals : BlockRefusals verdict_of
-block-refusals v p l b = (λ e. subst (λ (w : Verdict). Told w p l) e (told p l b), is-told v p l b)
+pub block_refusals_lem : BlockRefusals verdict_of
+block_refusals_lem v p l b = (λ e. subst (λ (w : Verdict). Told w p l) e (told p l b), is_told v p l b)

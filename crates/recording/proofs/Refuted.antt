@@ -33,9 +33,9 @@ below_at n (x ∷ l) h e (suc i) = below_at n l h ((and-eq-true_iff (leb (x + 1)
 abbrev damaged : List ℕ
 damaged = bytes [] (0 ∷ 1 ∷ [])
 
-number-first : ¬ (BlockRefusals number_first)
+number_first_lem : ¬ (BlockRefusals number_first)
 unfolding sum_to
-number-first claim =
+number_first_lem claim =
     let z : ◌≡◌ {A = ℕ} 256 0 = ((claim BadNumber 1 damaged (below_at 256 damaged (omega arith) refl)).0 refl).1.0 in
     absurd (omega (arith, z))
 
@@ -44,12 +44,12 @@ number-first claim =
 abbrev untidy : List ℕ
 untidy = bytes (1 ∷ 0 ∷ 1 ∷ 0 ∷ 8 ∷ 9 ∷ []) (246 ∷ 246 ∷ [])
 
-rest-unseen : ¬ (BlockRefusals rest_unseen)
+rest_unseen_lem : ¬ (BlockRefusals rest_unseen)
 unfolding sum_to blank calls_in read_of is_record kind_of with_tag
-rest-unseen claim =
+rest_unseen_lem claim =
     let t = (claim Good 1 untidy (below_at 256 untidy (omega arith) refl)).0 refl in
     let z : ◌≡◌ {A = ℕ} 9 0 = t.1.1.1.0.zeros 5 (omega arith) (omega arith) in
     absurd (omega (arith, z))
 
-pub block-mistakes-shut-out : BlockMistakesShutOut
-block-mistakes-shut-out = record { number-first = number-first; rest-unseen = rest-unseen }
+pub block_mistakes_shut_out_lem : BlockMistakesShutOut
+block_mistakes_shut_out_lem = record { number_first_lem = number_first_lem; rest_unseen_lem = rest_unseen_lem }

@@ -14,8 +14,8 @@ use Rattle.recording.specs.Calls.{calls_of, is_some}
 use Rattle.recording.specs.Written.{sum_to, count_of}
 use Rattle.recording.specs.Block.{number_fits, count_fits, records_fit, is_filled, body_of, verdict_for}
 
-pub count-over : (l : List ℕ) (n : ℕ) → n ≡ count_of l → 506 < n → false ≡ count_fits l
-count-over l n e h = rw (← e, lt-leb n 506 h)
+pub count_over : (l : List ℕ) (n : ℕ) → n ≡ count_of l → 506 < n → false ≡ count_fits l
+count_over l n e h = rw (← e, lt-leb n 506 h)
 
 pub count_zeros : (l : List ℕ) (n : ℕ) (b : Bool) → n ≡ count_of l → n ≤ 506 → b ≡ blank (drop (4 + n) (take 510 l)) → b ≡ count_fits l
 count_zeros l n b e h q = rw (← e, le-leb n 506 h) q
@@ -23,42 +23,42 @@ count_zeros l n b e h q = rw (← e, le-leb n 506 h) q
 pub count_small : (l : List ℕ) (b : Bool) → b ≡ count_fits l → b ≡ true → count_of l ≤ 506
 count_small l b e t = leb-true (count_of l) 506 ((and-eq-true_iff (leb (count_of l) 506) (blank (drop (4 + count_of l) (take 510 l)))).0 (sym e ∙ t)).0
 
-pub used-is : (l : List ℕ) (n : ℕ) (b : Bool) → n ≡ count_of l → b ≡ is_some (calls_of (take (4 + n - 4) (drop 4 l))) → b ≡ records_fit l
-used-is l n b e q = let d : 4 + n - 4 ≡ n = omega arith in q ∙ ap (λ (m : ℕ). is_some (calls_of (take m (drop 4 l)))) (d ∙ e)
+pub used_is : (l : List ℕ) (n : ℕ) (b : Bool) → n ≡ count_of l → b ≡ is_some (calls_of (take (4 + n - 4) (drop 4 l))) → b ≡ records_fit l
+used_is l n b e q = let d : 4 + n - 4 ≡ n = omega arith in q ∙ ap (λ (m : ℕ). is_some (calls_of (take m (drop 4 l)))) (d ∙ e)
 
-pub body-record : (l : List ℕ) (b d : Bool) → b ≡ count_fits l → d ≡ records_fit l → b ≡ true → d ≡ false → BadRecord ≡ body_of l
-body-record l b d e f t u = rw (← e, ← f, t, u)
+pub body_record : (l : List ℕ) (b d : Bool) → b ≡ count_fits l → d ≡ records_fit l → b ≡ true → d ≡ false → BadRecord ≡ body_of l
+body_record l b d e f t u = rw (← e, ← f, t, u)
 
-pub body-good : (l : List ℕ) (b d : Bool) → b ≡ count_fits l → d ≡ records_fit l → b ≡ true → d ≡ true → Good ≡ body_of l
-body-good l b d e f t u = rw (← e, ← f, t, u)
+pub body_good : (l : List ℕ) (b d : Bool) → b ≡ count_fits l → d ≡ records_fit l → b ≡ true → d ≡ true → Good ≡ body_of l
+body_good l b d e f t u = rw (← e, ← f, t, u)
 
-pub body-count : (l : List ℕ) (b : Bool) → b ≡ count_fits l → b ≡ false → BadCount ≡ body_of l
-body-count l b e f = rw (← e, f)
+pub body_count : (l : List ℕ) (b : Bool) → b ≡ count_fits l → b ≡ false → BadCount ≡ body_of l
+body_count l b e f = rw (← e, f)
 
-pub unfilled-length : (l : List ℕ) → ¬ (length l ≡ 512) → false ≡ is_filled l
-unfilled-length l n = rw (ne_eqb (length l) 512 n)
+pub unfilled_length : (l : List ℕ) → ¬ (length l ≡ 512) → false ≡ is_filled l
+unfilled_length l n = rw (ne_eqb (length l) 512 n)
 
 module _ (l : List ℕ) (long : length l ≡ 512) (b : Bool) (e : b ≡ count_fits l) where
-  pub unfilled-count : b ≡ false → false ≡ is_filled l
-  unfilled-count f = rw (eq-eqb (length l) 512 long, ← e, f)
+  pub unfilled_count : b ≡ false → false ≡ is_filled l
+  unfilled_count f = rw (eq-eqb (length l) 512 long, ← e, f)
 
-  pub filled-records : b ≡ true → (d : Bool) → d ≡ records_fit l → d ≡ is_filled l
-  filled-records t d f = rw (eq-eqb (length l) 512 long, ← e, t) f
+  pub filled_records : b ≡ true → (d : Bool) → d ≡ records_fit l → d ≡ is_filled l
+  filled_records t d f = rw (eq-eqb (length l) 512 long, ← e, t) f
 
-pub wrong-length : (l : List ℕ) (numbered : Bool) (p : ℕ) → ¬ (length l ≡ 512) → BadLength ≡ verdict_for numbered p l
+pub wrong_length_lem : (l : List ℕ) (numbered : Bool) (p : ℕ) → ¬ (length l ≡ 512) → BadLength ≡ verdict_for numbered p l
 unfolding verdict_for
-wrong-length l numbered p n = rw (ne_eqb (length l) 512 n)
+wrong_length_lem l numbered p n = rw (ne_eqb (length l) 512 n)
 
 module _ (l : List ℕ) (numbered : Bool) (p : ℕ) (long : length l ≡ 512) (sum : ℕ) (is : sum ≡ sum_to l 256) where
-  pub wrong-check : ¬ (sum % 65536 ≡ 0) → BadCheck ≡ verdict_for numbered p l
+  pub wrong_check : ¬ (sum % 65536 ≡ 0) → BadCheck ≡ verdict_for numbered p l
   unfolding verdict_for
-  wrong-check n = rw (eq-eqb (length l) 512 long, ← is, ne_eqb (sum % 65536) 0 n)
+  wrong_check n = rw (eq-eqb (length l) 512 long, ← is, ne_eqb (sum % 65536) 0 n)
 
   module _ (right : sum % 65536 ≡ 0) (f : Bool) (fits : f ≡ number_fits p l) (b : Bool) (both : b ≡ numbered && not f) where
-    pub wrong-number : b ≡ true → BadNumber ≡ verdict_for numbered p l
+    pub wrong_number : b ≡ true → BadNumber ≡ verdict_for numbered p l
     unfolding verdict_for
-    wrong-number t = rw (eq-eqb (length l) 512 long, ← is, eq-eqb (sum % 65536) 0 right, ← fits, ← both, t)
+    wrong_number t = rw (eq-eqb (length l) 512 long, ← is, eq-eqb (sum % 65536) 0 right, ← fits, ← both, t)
 
-    pub right-number : b ≡ false → (r : Verdict) → r ≡ body_of l → r ≡ verdict_for numbered p l
+    pub right_number : b ≡ false → (r : Verdict) → r ≡ body_of l → r ≡ verdict_for numbered p l
     unfolding verdict_for
-    right-number t r e = rw (eq-eqb (length l) 512 long, ← is, eq-eqb (sum % 65536) 0 right, ← fits, ← both, t) e
+    right_number t r e = rw (eq-eqb (length l) 512 long, ← is, eq-eqb (sum % 65536) 0 right, ← fits, ← both, t) e

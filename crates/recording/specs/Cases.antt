@@ -14,11 +14,11 @@ abbrev pub tick_block : List ℕ
 tick_block = bytes (1 ∷ 0 ∷ 1 ∷ 0 ∷ 8 ∷ []) (246 ∷ 255 ∷ [])
 
 pub record BlockCases : Type 0 where
-  pub tick-written : block_of 1 (Tick ∷ []) ≡ tick_block
-  pub tick-good : verdict_of 1 tick_block ≡ Good
-  pub tick-calls : calls_at tick_block ≡ Tick ∷ []
+  pub tick_written : block_of 1 (Tick ∷ []) ≡ tick_block
+  pub tick_good : verdict_of 1 tick_block ≡ Good
+  pub tick_calls : calls_at tick_block ≡ Tick ∷ []
   -- a block without records
-  pub empty-good : verdict_of 1 (bytes (1 ∷ []) (255 ∷ 255 ∷ [])) ≡ Good
+  pub empty_good : verdict_of 1 (bytes (1 ∷ []) (255 ∷ 255 ∷ [])) ≡ Good
   -- a byte less
   pub cut : verdict_of 1 (take 511 tick_block) ≡ BadLength
   -- another last byte
@@ -26,14 +26,14 @@ pub record BlockCases : Type 0 where
   -- at another place; at place 65,537, which 16 bits can't tell from 1; number 0 at place 0
   pub misplaced : verdict_of 2 tick_block ≡ BadNumber
   pub too_many : verdict_of 65537 tick_block ≡ BadNumber
-  pub place-zero : verdict_of 0 (bytes [] (0 ∷ 0 ∷ [])) ≡ BadNumber
+  pub place_zero : verdict_of 0 (bytes [] (0 ∷ 0 ∷ [])) ≡ BadNumber
   -- a count of 507 (01FBh), with its check
-  pub count-507 : verdict_of 1 (bytes (1 ∷ 0 ∷ 251 ∷ 1 ∷ []) (4 ∷ 254 ∷ [])) ≡ BadCount
+  pub count_507 : verdict_of 1 (bytes (1 ∷ 0 ∷ 251 ∷ 1 ∷ []) (4 ∷ 254 ∷ [])) ≡ BadCount
   -- a byte behind the tick
   pub unused : verdict_of 1 (bytes (1 ∷ 0 ∷ 1 ∷ 0 ∷ 8 ∷ 9 ∷ []) (246 ∷ 246 ∷ [])) ≡ BadCount
   -- tag 10
   pub no_record : verdict_of 1 (bytes (1 ∷ 0 ∷ 1 ∷ 0 ∷ 10 ∷ []) (244 ∷ 255 ∷ [])) ≡ BadRecord
   -- number and count are wrong: the number is told
-  pub number-first : verdict_of 2 (bytes (1 ∷ 0 ∷ 251 ∷ 1 ∷ []) (4 ∷ 254 ∷ [])) ≡ BadNumber
+  pub number_first_lem : verdict_of 2 (bytes (1 ∷ 0 ∷ 251 ∷ 1 ∷ []) (4 ∷ 254 ∷ [])) ≡ BadNumber
   -- check and number are wrong: the check is told
-  pub check-first : verdict_of 2 (bytes (1 ∷ 0 ∷ 1 ∷ 0 ∷ 8 ∷ []) (246 ∷ 254 ∷ [])) ≡ BadCheck
+  pub check_first : verdict_of 2 (bytes (1 ∷ 0 ∷ 1 ∷ 0 ∷ 8 ∷ []) (246 ∷ 254 ∷ [])) ≡ BadCheck

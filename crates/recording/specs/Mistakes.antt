@@ -19,5 +19,5 @@ rest_unseen p l =
     BadLength
 
 pub record BlockMistakesShutOut : Type 0 where
-  pub number-first : ¬ (BlockRefusals number_first)
-  pub rest-unseen : ¬ (BlockRefusals rest_unseen)
+  pub number_first_lem : ¬ (BlockRefusals number_first)
+  pub rest_unseen_lem : ¬ (BlockRefusals rest_unseen)

@@ -13,16 +13,16 @@ use Rattle.hub.specs.Step.{step}
 use Rattle.runs.specs.Machine.{rules, run_from, after_from}
 use Rattle.call_bytes.specs.Table.{is_known}
 use Rattle.call_bytes.specs.Read.{read_of}
-use Rattle.call_bytes.proofs.Exact.{read-size}
+use Rattle.call_bytes.proofs.Exact.{read_size}
 use Rattle.recording.specs.Calls.{cons_to, calls_of, is_some, listed}
-use Rattle.recording.proofs.Rows.{calls-known, at-end}
+use Rattle.recording.proofs.Rows.{calls_known, at_end}
 use Rattle.replay.specs.declared.Counts.{Counts}
 use Rattle.replay.specs.declared.Ran.{Ran}
 use Rattle.replay.specs.Answers.{answer_bytes, answers_in}
 use Rattle.replay.specs.Counting.{tallied}
 use Rattle.replay.specs.Code.{tally_in}
 use Rattle.replay.specs.Turn.{AtMost, TurnFits, call_there, Turned, RunFits, RanAll}
-use Rattle.replay.proofs.Turning.{known-there}
+use Rattle.replay.proofs.Turning.{known_there}
 
 -- the calls that are left
 abbrev pub left : ℕ → List ℕ → List Call
@@ -55,8 +55,8 @@ going_start f =
     }
 
 module _ {h₀ : Hub} {c₀ : Counts} {l o₀ : List ℕ} (f : RunFits c₀ l (length o₀)) {ran : Ran} {o : List ℕ} (g : Going h₀ c₀ l o₀ ran o) where
-  pub going-fits : ran.at < length l → TurnFits ran l (length o)
-  going-fits h =
+  pub going_fits : ran.at < length l → TurnFits ran l (length o)
+  going_fits h =
       record {
         used = f.used;
         inside = h;
@@ -71,13 +71,13 @@ module _ {h₀ : Hub} {c₀ : Counts} {l o₀ : List ℕ} (f : RunFits c₀ l (l
             };
       }
 
-  some-rest : (c : Call) (x : Option (List Call)) → is_some (cons_to c x) ≡ true → (is_some x ≡ true) × (listed (cons_to c x) ≡ c ∷ listed x)
-  some-rest c none e = absurd (false≢true e)
-  some-rest c (some cs) e = (refl, refl)
+  some_rest : (c : Call) (x : Option (List Call)) → is_some (cons_to c x) ≡ true → (is_some x ≡ true) × (listed (cons_to c x) ≡ c ∷ listed x)
+  some_rest c none e = absurd (false≢true e)
+  some_rest c (some cs) e = (refl, refl)
 
-  pub going-turn : ran.at < length l → {r : Ran} {o' : List ℕ} → Turned ran r l o o' → Going h₀ c₀ l o₀ r o'
+  pub going_turn : ran.at < length l → {r : Ran} {o' : List ℕ} → Turned ran r l o o' → Going h₀ c₀ l o₀ r o'
   unfolding answers_in run_from after_from tallied
-  going-turn h {r} t =
+  going_turn h {r} t =
       record {
         inside = omega (arith, ends, t.at);
         records = ap (λ (n : ℕ). is_some (calls_of (drop n l))) t.at ∙ rest.0;
@@ -122,24 +122,24 @@ module _ {h₀ : Hub} {c₀ : Counts} {l o₀ : List ℕ} (f : RunFits c₀ l (l
       n₁ = (read_of (drop ran.at l)).length
 
       known : is_known (read_of (drop ran.at l)).kind ≡ true
-      known = known-there (drop ran.at l) (omega (arith, length-drop ran.at l, h)) g.records
+      known = known_there (drop ran.at l) (omega (arith, length-drop ran.at l, h)) g.records
 
       size : (1 ≤ (read_of (drop ran.at l)).length) × ((read_of (drop ran.at l)).length ≤ length (drop ran.at l))
-      size = read-size (drop ran.at l) known
+      size = read_size (drop ran.at l) known
 
       ends : ran.at + (read_of (drop ran.at l)).length ≤ length l
       ends = omega (arith, size.1, length-drop ran.at l, h)
 
       whole : calls_of (drop ran.at l) ≡ cons_to (call_there ran.at l) (calls_of (drop (ran.at + (read_of (drop ran.at l)).length) l))
       whole =
-          calls-known (drop ran.at l) known
+          calls_known (drop ran.at l) known
           ∙ ap (λ (m : List ℕ). cons_to (call_there ran.at l) (calls_of m)) (drop-drop (read_of (drop ran.at l)).length ran.at l)
 
-      behind-it : Option (List Call)
-      behind-it = calls_of (drop (ran.at + (read_of (drop ran.at l)).length) l)
+      behind_it : Option (List Call)
+      behind_it = calls_of (drop (ran.at + (read_of (drop ran.at l)).length) l)
 
-      rest : (is_some behind-it ≡ true) × (listed (cons_to (call_there ran.at l) behind-it) ≡ call_there ran.at l ∷ listed behind-it)
-      rest = some-rest (call_there ran.at l) (calls_of (drop (ran.at + (read_of (drop ran.at l)).length) l)) (ap is_some (sym whole) ∙ g.records)
+      rest : (is_some behind_it ≡ true) × (listed (cons_to (call_there ran.at l) behind_it) ≡ call_there ran.at l ∷ listed behind_it)
+      rest = some_rest (call_there ran.at l) (calls_of (drop (ran.at + (read_of (drop ran.at l)).length) l)) (ap is_some (sym whole) ∙ g.records)
 
       calls : left ran.at l ≡ call_there ran.at l ∷ left (ran.at + (read_of (drop ran.at l)).length) l
       calls = ap listed whole ∙ rest.1
@@ -183,8 +183,8 @@ module _ {h₀ : Hub} {c₀ : Counts} {l o₀ : List ℕ} (f : RunFits c₀ l (l
 
   pub turn_more : ran.at < length l → {r : Ran} {o' : List ℕ} → Turned ran r l o o' → ran.at < r.at
   turn_more h t =
-      let known = known-there (drop ran.at l) (omega (arith, length-drop ran.at l, h)) g.records in
-      omega (arith, t.at, (read-size (drop ran.at l) known).0)
+      let known = known_there (drop ran.at l) (omega (arith, length-drop ran.at l, h)) g.records in
+      omega (arith, t.at, (read_size (drop ran.at l) known).0)
 
   pub going_end : length l ≤ ran.at → RanAll h₀ c₀ ran l o₀ o
   unfolding answers_in run_from after_from tallied
@@ -204,7 +204,7 @@ module _ {h₀ : Hub} {c₀ : Counts} {l o₀ : List ℕ} (f : RunFits c₀ l (l
       }
     where
       none_left : left ran.at l ≡ []
-      none_left = ap listed (at-end l ran.at h)
+      none_left = ap listed (at_end l ran.at h)
 
       all : take ran.written o ≡ answers_in (run_from rules h₀ (listed (calls_of l)))
       all =

@@ -17,10 +17,10 @@ use Rattle.runs.specs.Machine.{new_hub_of, rules, run_from}
 use Rattle.runs.specs.Tally.{Tally, stores_it, answers_it, empties_it, is_stored_at, is_answered_at, is_emptied_at, count_to, tally_of, active_buffers, past}
 use Rattle.runs.proofs.Kept.{ev, Tied}
 use Rattle.runs.proofs.Steps.{step_kept}
-use Rattle.runs.proofs.Theorems.{new-tied}
+use Rattle.runs.proofs.Theorems.{new_tied}
 use Rattle.runs.proofs.Counting.{count_same}
-use Rattle.runs.proofs.Fates.{late-stored, late-answered, late-emptied}
-use Rattle.runs.proofs.Tallied.{is_complete as is_completes, request-else, Never, never-step, tally-sum}
+use Rattle.runs.proofs.Fates.{late_stored, late_answered, late_emptied}
+use Rattle.runs.proofs.Tallied.{is_complete as is_completes, request_else, Never, never_step, tally-sum}
 use Rattle.replay.specs.Counting.{is_complete, tallied_by, tallied, Counted}
 
 -- ---- counting one place more
@@ -29,81 +29,81 @@ bit_le : (x y : Bool) → (x ≡ true → y ≡ true) → bit x ≤ bit y
 bit_le true y h = rw (h refl) (omega arith)
 bit_le false y h = zero-le
 
-count-le : (f g : ℕ → Bool) (n : ℕ) → ((s : ℕ) → f s ≡ true → g s ≡ true) → count_to f n ≤ count_to g n
+count_le : (f g : ℕ → Bool) (n : ℕ) → ((s : ℕ) → f s ≡ true → g s ≡ true) → count_to f n ≤ count_to g n
 unfolding count_to
-count-le f g zero h = omega arith
-count-le f g (suc n) h = omega (arith, bit_le (f n) (g n) (h n), count-le f g n h)
+count_le f g zero h = omega arith
+count_le f g (suc n) h = omega (arith, bit_le (f n) (g n) (h n), count_le f g n h)
 
 module _ (h : History) (e : Event) where
-  stored-le : (tally_of h).stored ≤ (tally_of (e ∷ h)).stored
+  stored_le : (tally_of h).stored ≤ (tally_of (e ∷ h)).stored
   unfolding tally_of count_to is_stored_at
-  stored-le =
-      omega (arith, count-le (is_stored_at h) (is_stored_at (e ∷ h)) (length h) (λ s p. rw p (or-true (stores_it (asks e.call) e.answer h s))))
+  stored_le =
+      omega (arith, count_le (is_stored_at h) (is_stored_at (e ∷ h)) (length h) (λ s p. rw p (or-true (stores_it (asks e.call) e.answer h s))))
 
-  answered-le : (tally_of h).answered ≤ (tally_of (e ∷ h)).answered
+  answered_le : (tally_of h).answered ≤ (tally_of (e ∷ h)).answered
   unfolding tally_of count_to is_answered_at
-  answered-le =
-      omega (arith, count-le (is_answered_at h) (is_answered_at (e ∷ h)) (length h) (λ s p. rw p (or-true (answers_it (asks e.call) e.answer h s))))
+  answered_le =
+      omega (arith, count_le (is_answered_at h) (is_answered_at (e ∷ h)) (length h) (λ s p. rw p (or-true (answers_it (asks e.call) e.answer h s))))
 
-  emptied-le : (tally_of h).emptied ≤ (tally_of (e ∷ h)).emptied
+  emptied_le : (tally_of h).emptied ≤ (tally_of (e ∷ h)).emptied
   unfolding tally_of count_to is_emptied_at
-  emptied-le =
+  emptied_le =
       omega (
         arith,
-        count-le (is_emptied_at h) (is_emptied_at (e ∷ h)) (length h)
+        count_le (is_emptied_at h) (is_emptied_at (e ∷ h)) (length h)
             (λ s p. rw p (or-true (empties_it (asks e.call) e.answer h s && (is_stored_at h s && not (is_answered_at h s))))),
       )
 
   stored_same : ((s : ℕ) → is_stored_at (e ∷ h) s ≡ is_stored_at h s) → (tally_of (e ∷ h)).stored ≡ (tally_of h).stored
   unfolding tally_of count_to
   stored_same p =
-      let last = ap bit (p (length h) ∙ late-stored h (length h) (omega arith)) in
+      let last = ap bit (p (length h) ∙ late_stored h (length h) (omega arith)) in
       omega (arith, last, count_same (is_stored_at (e ∷ h)) (is_stored_at h) (length h) (λ s _. p s))
 
-  answered-same : ((s : ℕ) → is_answered_at (e ∷ h) s ≡ is_answered_at h s) → (tally_of (e ∷ h)).answered ≡ (tally_of h).answered
+  answered_same : ((s : ℕ) → is_answered_at (e ∷ h) s ≡ is_answered_at h s) → (tally_of (e ∷ h)).answered ≡ (tally_of h).answered
   unfolding tally_of count_to
-  answered-same p =
-      let last = ap bit (p (length h) ∙ late-answered h (length h) (omega arith)) in
+  answered_same p =
+      let last = ap bit (p (length h) ∙ late_answered h (length h) (omega arith)) in
       omega (arith, last, count_same (is_answered_at (e ∷ h)) (is_answered_at h) (length h) (λ s _. p s))
 
-  emptied-same : ((s : ℕ) → is_emptied_at (e ∷ h) s ≡ is_emptied_at h s) → (tally_of (e ∷ h)).emptied ≡ (tally_of h).emptied
+  emptied_same : ((s : ℕ) → is_emptied_at (e ∷ h) s ≡ is_emptied_at h s) → (tally_of (e ∷ h)).emptied ≡ (tally_of h).emptied
   unfolding tally_of count_to
-  emptied-same p =
-      let last = ap bit (p (length h) ∙ late-emptied h (length h) (omega arith)) in
+  emptied_same p =
+      let last = ap bit (p (length h) ∙ late_emptied h (length h) (omega arith)) in
       omega (arith, last, count_same (is_emptied_at (e ∷ h)) (is_emptied_at h) (length h) (λ s _. p s))
 
 -- ---- one call
 
-complete-is : (c : Call) → is_completes (asks c) ≡ is_complete c
+complete_is : (c : Call) → is_completes (asks c) ≡ is_complete c
 unfolding asks
-complete-is (Control z s room) = request-else (lane_from z) (kind_of (setup_of s).requesttype (setup_of s).code) (setup_of s).value
-complete-is (Poll z room) = refl
-complete-is (Start z p t f g a e l) = refl
-complete-is (Complete z a e d room) = refl
-complete-is (Launch room) = refl
-complete-is (Deliver r l) = refl
-complete-is (Line e n) = refl
-complete-is Tick = refl
-complete-is BusReset = refl
+complete_is (Control z s room) = request_else (lane_from z) (kind_of (setup_of s).requesttype (setup_of s).code) (setup_of s).value
+complete_is (Poll z room) = refl
+complete_is (Start z p t f g a e l) = refl
+complete_is (Complete z a e d room) = refl
+complete_is (Launch room) = refl
+complete_is (Deliver r l) = refl
+complete_is (Line e n) = refl
+complete_is Tick = refl
+complete_is BusReset = refl
 
-pub tally-is : (t u : Tally) → t.stored ≡ u.stored → t.answered ≡ u.answered → t.emptied ≡ u.emptied → t ≡ u
-tally-is t u p q r = λ i. record { stored = p i; answered = q i; emptied = r i }
+pub tally_is : (t u : Tally) → t.stored ≡ u.stored → t.answered ≡ u.answered → t.emptied ≡ u.emptied → t ≡ u
+tally_is t u p q r = λ i. record { stored = p i; answered = q i; emptied = r i }
 
 -- which of the three a call may change
-stored-else : (h : History) (e : Event) (x : Asks) → asks e.call ≡ x → (s : ℕ) → stores_it x e.answer h s ≡ false
+stored_else : (h : History) (e : Event) (x : Asks) → asks e.call ≡ x → (s : ℕ) → stores_it x e.answer h s ≡ false
     → is_stored_at (e ∷ h) s ≡ is_stored_at h s
 unfolding is_stored_at
-stored-else h e x q s p = rw (q, p)
+stored_else h e x q s p = rw (q, p)
 
-answered-else : (h : History) (e : Event) (x : Asks) → asks e.call ≡ x → (s : ℕ) → answers_it x e.answer h s ≡ false
+answered_else : (h : History) (e : Event) (x : Asks) → asks e.call ≡ x → (s : ℕ) → answers_it x e.answer h s ≡ false
     → is_answered_at (e ∷ h) s ≡ is_answered_at h s
 unfolding is_answered_at
-answered-else h e x q s p = rw (q, p)
+answered_else h e x q s p = rw (q, p)
 
-emptied-else : (h : History) (e : Event) (x : Asks) → asks e.call ≡ x → (s : ℕ) → empties_it x e.answer h s ≡ false
+emptied_else : (h : History) (e : Event) (x : Asks) → asks e.call ≡ x → (s : ℕ) → empties_it x e.answer h s ≡ false
     → is_emptied_at (e ∷ h) s ≡ is_emptied_at h s
 unfolding is_emptied_at
-emptied-else h e x q s p = rw (q, p)
+emptied_else h e x q s p = rw (q, p)
 
 module _ (h : History) (hub : Hub) (tied : Tied h hub.translator) (never : Never h) (c : Call) where
   abbrev next : Hub
@@ -119,61 +119,61 @@ module _ (h : History) (hub : Hub) (tied : Tied h hub.translator) (never : Never
   was = tally-sum h hub.translator tied never
 
   is : (tally_of now).stored ≡ (tally_of now).answered + (tally_of now).emptied + active_buffers next
-  is = tally-sum now next.translator (step_kept h hub tied c).0 (never-step h hub tied never c)
+  is = tally-sum now next.translator (step_kept h hub tied c).0 (never_step h hub tied never c)
 
-  none-stored : (x : Asks) → asks c ≡ x → ((s : ℕ) → stores_it x said h s ≡ false) → (tally_of now).stored ≡ (tally_of h).stored
-  none-stored x q p = stored_same h (ev c said) (λ s. stored-else h (ev c said) x q s (p s))
+  none_stored : (x : Asks) → asks c ≡ x → ((s : ℕ) → stores_it x said h s ≡ false) → (tally_of now).stored ≡ (tally_of h).stored
+  none_stored x q p = stored_same h (ev c said) (λ s. stored_else h (ev c said) x q s (p s))
 
-  none-answered : (x : Asks) → asks c ≡ x → ((s : ℕ) → answers_it x said h s ≡ false) → (tally_of now).answered ≡ (tally_of h).answered
-  none-answered x q p = answered-same h (ev c said) (λ s. answered-else h (ev c said) x q s (p s))
+  none_answered : (x : Asks) → asks c ≡ x → ((s : ℕ) → answers_it x said h s ≡ false) → (tally_of now).answered ≡ (tally_of h).answered
+  none_answered x q p = answered_same h (ev c said) (λ s. answered_else h (ev c said) x q s (p s))
 
-  none-emptied : (x : Asks) → asks c ≡ x → ((s : ℕ) → empties_it x said h s ≡ false) → (tally_of now).emptied ≡ (tally_of h).emptied
-  none-emptied x q p = emptied-same h (ev c said) (λ s. emptied-else h (ev c said) x q s (p s))
+  none_emptied : (x : Asks) → asks c ≡ x → ((s : ℕ) → empties_it x said h s ≡ false) → (tally_of now).emptied ≡ (tally_of h).emptied
+  none_emptied x q p = emptied_same h (ev c said) (λ s. emptied_else h (ev c said) x q s (p s))
 
   abbrev Tallies : Bool → Type 0
   Tallies complete = tallied_by complete (active_buffers hub) (active_buffers next) (tally_of h) ≡ tally_of now
 
-  emptied-only : (tally_of now).stored ≡ (tally_of h).stored → (tally_of now).answered ≡ (tally_of h).answered → Tallies false
-  emptied-only s a =
-      let more = emptied-le h (ev c said) in
-      tally-is _ _ (omega (arith, was, is, a, s, more)) (omega (arith, a)) (omega (arith, was, is, a, s, more))
+  emptied_only : (tally_of now).stored ≡ (tally_of h).stored → (tally_of now).answered ≡ (tally_of h).answered → Tallies false
+  emptied_only s a =
+      let more = emptied_le h (ev c said) in
+      tally_is _ _ (omega (arith, was, is, a, s, more)) (omega (arith, a)) (omega (arith, was, is, a, s, more))
 
-  stored-only : (tally_of now).answered ≡ (tally_of h).answered → (tally_of now).emptied ≡ (tally_of h).emptied → Tallies false
-  stored-only a m =
-      let more = stored-le h (ev c said) in
-      tally-is _ _ (omega (arith, was, is, a, m, more)) (omega (arith, a)) (omega (arith, was, is, a, m, more))
+  stored_only : (tally_of now).answered ≡ (tally_of h).answered → (tally_of now).emptied ≡ (tally_of h).emptied → Tallies false
+  stored_only a m =
+      let more = stored_le h (ev c said) in
+      tally_is _ _ (omega (arith, was, is, a, m, more)) (omega (arith, a)) (omega (arith, was, is, a, m, more))
 
-  answered-only : (tally_of now).stored ≡ (tally_of h).stored → (tally_of now).emptied ≡ (tally_of h).emptied → Tallies true
-  answered-only s m =
-      let more = answered-le h (ev c said) in
-      tally-is _ _ (omega (arith, was, is, s, m, more)) (omega (arith, was, is, s, m, more)) (omega (arith, m))
+  answered_only : (tally_of now).stored ≡ (tally_of h).stored → (tally_of now).emptied ≡ (tally_of h).emptied → Tallies true
+  answered_only s m =
+      let more = answered_le h (ev c said) in
+      tally_is _ _ (omega (arith, was, is, s, m, more)) (omega (arith, was, is, s, m, more)) (omega (arith, m))
 
-  tally-step : Tallies (is_complete c)
+  tally_step : Tallies (is_complete c)
   unfolding stores_it answers_it empties_it
-  tally-step = subst Tallies (complete-is c) (go (asks c) refl)
+  tally_step = subst Tallies (complete_is c) (go (asks c) refl)
     where
-      emptied-by : (x : Asks) → asks c ≡ x → ((s : ℕ) → stores_it x (step hub c).answer h s ≡ false)
+      emptied_by : (x : Asks) → asks c ≡ x → ((s : ℕ) → stores_it x (step hub c).answer h s ≡ false)
           → ((s : ℕ) → answers_it x (step hub c).answer h s ≡ false) → Tallies false
-      emptied-by x q s a = emptied-only (none-stored x q s) (none-answered x q a)
+      emptied_by x q s a = emptied_only (none_stored x q s) (none_answered x q a)
 
       go : (x : Asks) → asks c ≡ x → Tallies (is_completes x)
-      go nothing q = emptied-by nothing q (λ s. refl) (λ s. refl)
-      go (starts k) q = stored-only (none-answered (starts k) q (λ s. refl)) (none-emptied (starts k) q (λ s. refl))
-      go (completes k) q = answered-only (none-stored (completes k) q (λ s. refl)) (none-emptied (completes k) q (λ s. refl))
-      go launches q = emptied-by launches q (λ s. refl) (λ s. refl)
-      go (delivers r l) q = emptied-by (delivers r l) q (λ s. refl) (λ s. refl)
-      go (clears k) q = emptied-by (clears k) q (λ s. refl) (λ s. refl)
-      go (resets z) q = emptied-by (resets z) q (λ s. refl) (λ s. refl)
-      go empties q = emptied-by empties q (λ s. refl) (λ s. refl)
+      go nothing q = emptied_by nothing q (λ s. refl) (λ s. refl)
+      go (starts k) q = stored_only (none_answered (starts k) q (λ s. refl)) (none_emptied (starts k) q (λ s. refl))
+      go (completes k) q = answered_only (none_stored (completes k) q (λ s. refl)) (none_emptied (completes k) q (λ s. refl))
+      go launches q = emptied_by launches q (λ s. refl) (λ s. refl)
+      go (delivers r l) q = emptied_by (delivers r l) q (λ s. refl) (λ s. refl)
+      go (clears k) q = emptied_by (clears k) q (λ s. refl) (λ s. refl)
+      go (resets z) q = emptied_by (resets z) q (λ s. refl) (λ s. refl)
+      go empties q = emptied_by empties q (λ s. refl) (λ s. refl)
 
-counts-from : (cs : List Call) (h : History) (hub : Hub) → Tied h hub.translator → Never h
+counts_from : (cs : List Call) (h : History) (hub : Hub) → Tied h hub.translator → Never h
     → tallied hub cs (tally_of h) ≡ tally_of (past h (run_from rules hub cs))
 unfolding tallied past run_from
-counts-from [] h hub tied never = refl
-counts-from (c ∷ cs) h hub tied never =
-    ap (tallied (step hub c).next cs) (tally-step h hub tied never c)
-    ∙ counts-from cs (ev c (step hub c).answer ∷ h) (step hub c).next (step_kept h hub tied c).0 (never-step h hub tied never c)
+counts_from [] h hub tied never = refl
+counts_from (c ∷ cs) h hub tied never =
+    ap (tallied (step hub c).next cs) (tally_step h hub tied never c)
+    ∙ counts_from cs (ev c (step hub c).answer ∷ h) (step hub c).next (step_kept h hub tied c).0 (never_step h hub tied never c)
 
 pub counted : Counted
 unfolding is_answered_at tally_of count_to
-counted n cs = counts-from cs [] (new_hub_of n) (new-tied n) (λ s p. absurd (false≢true p))
+counted n cs = counts_from cs [] (new_hub_of n) (new_tied n) (λ s p. absurd (false≢true p))

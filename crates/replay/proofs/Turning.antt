@@ -17,9 +17,9 @@ use Rattle.call_bytes.specs.declared.CallKind.TheVariants as kind
 use Rattle.call_bytes.specs.declared.Recorded.{Recorded}
 use Rattle.call_bytes.specs.Table.{kind_of, call_of, is_known}
 use Rattle.call_bytes.specs.Read.{is_record, recorded_as, no_record, read_of, call_in}
-use Rattle.call_bytes.proofs.Exact.{read-size}
+use Rattle.call_bytes.proofs.Exact.{read_size}
 use Rattle.recording.specs.Calls.{calls_of, is_some}
-use Rattle.recording.proofs.Rows.{calls-unknown, tail-is}
+use Rattle.recording.proofs.Rows.{calls_unknown, tail_is}
 use Rattle.replay.specs.declared.Counts.{Counts}
 use Rattle.replay.specs.declared.Ran.{Ran}
 use Rattle.replay.specs.Answers.{answer_bytes, put_first}
@@ -36,12 +36,12 @@ read-parts l = go (is_record (kind_of (get_or l 0 0)) l)
     go true = refl
     go false = refl
 
-pub known-there : (l : List ℕ) → 0 < length l → is_some (calls_of l) ≡ true → is_known (read_of l).kind ≡ true
-known-there l h e = go (is_known (read_of l).kind) refl
+pub known_there : (l : List ℕ) → 0 < length l → is_some (calls_of l) ≡ true → is_known (read_of l).kind ≡ true
+known_there l h e = go (is_known (read_of l).kind) refl
   where
     go : (x : Bool) → is_known (read_of l).kind ≡ x → x ≡ true
     go true q = refl
-    go false q = absurd (false≢true (sym (ap is_some (calls-unknown l h q)) ∙ e))
+    go false q = absurd (false≢true (sym (ap is_some (calls_unknown l h q)) ∙ e))
 
 pub record There (l : List ℕ) (at : ℕ) (r : Recorded) : Type 0 where
   pub is : r ≡ read_of (drop at l)
@@ -54,8 +54,8 @@ pub there : {ran : Ran} {l : List ℕ} {room : ℕ} → TurnFits ran l room → 
     → There l ran.at r
 there {ran} {l} f {r} q =
     let at = ran.at in
-    let i : r ≡ read_of (drop at l) = q ∙ ap read_of (tail-is l at) in
-    let s = read-size (drop at l) (known-there (drop at l) (omega (arith, length-drop at l, f.inside)) f.records) in
+    let i : r ≡ read_of (drop at l) = q ∙ ap read_of (tail_is l at) in
+    let s = read_size (drop at l) (known_there (drop at l) (omega (arith, length-drop at l, f.inside)) f.records) in
     let n : r.length ≡ (read_of (drop at l)).length = ap (λ (x : Recorded). x.length) i in
     let d : at + r.start + r.size - (at + r.start) ≡ r.size = omega arith in
     record {
@@ -68,34 +68,34 @@ there {ran} {l} f {r} q =
           ∙ ap (λ (x : Recorded). call_in x (drop at l)) i;
     }
 
-kind-complete : (k : CallKind) (ns b : List ℕ) → is_complete (call_of k ns b) ≡ is_complete_kind k
-kind-complete kind.Unknown ns b = refl
-kind-complete kind.Control ns b = refl
-kind-complete kind.Poll ns b = refl
-kind-complete kind.StartSplit ns b = refl
-kind-complete kind.CompleteSplit ns b = refl
-kind-complete kind.Launch ns b = refl
-kind-complete kind.Deliver ns b = refl
-kind-complete kind.LineEvent ns b = refl
-kind-complete kind.Tick ns b = refl
-kind-complete kind.BusReset ns b = refl
+kind_complete : (k : CallKind) (ns b : List ℕ) → is_complete (call_of k ns b) ≡ is_complete_kind k
+kind_complete kind.Unknown ns b = refl
+kind_complete kind.Control ns b = refl
+kind_complete kind.Poll ns b = refl
+kind_complete kind.StartSplit ns b = refl
+kind_complete kind.CompleteSplit ns b = refl
+kind_complete kind.Launch ns b = refl
+kind_complete kind.Deliver ns b = refl
+kind_complete kind.LineEvent ns b = refl
+kind_complete kind.Tick ns b = refl
+kind_complete kind.BusReset ns b = refl
 
 -- a part of the output that reaches to its end
-end-put : (o o₁ : List ℕ) (w : ℕ) → w ≤ length o → put_mid w (length o - w) o o₁ ≡ take w o ++ o₁
-end-put o o₁ w h =
+end_put : (o o₁ : List ℕ) (w : ℕ) → w ≤ length o → put_mid w (length o - w) o o₁ ≡ take w o ++ o₁
+end_put o o₁ w h =
     let e : length o - w ≡ length (drop w o) = sym (length-drop w o) in
     ap (λ (x : List ℕ). take w o ++ (o₁ ++ x)) (ap (λ (n : ℕ). drop n (drop w o)) e ∙ drop-length (drop w o))
     ∙ ap (λ (x : List ℕ). take w o ++ x) (append-nil o₁)
 
-most-by : (comp : Bool) (a b : Counts) (before after : ℕ) → before ≤ 4 → after ≤ 4
+most_by : (comp : Bool) (a b : Counts) (before after : ℕ) → before ≤ 4 → after ≤ 4
     → tally_in b ≡ tallied_by comp before after (tally_in a) → AtMost a b 4
-most-by true a b before after p q e =
+most_by true a b before after p q e =
     record {
       stored = omega (arith, ap (λ (t : Tally). t.stored) e);
       answered = omega (arith, ap (λ (t : Tally). t.answered) e);
       emptied = omega (arith, ap (λ (t : Tally). t.emptied) e);
     }
-most-by false a b before after p q e =
+most_by false a b before after p q e =
     record {
       stored = omega (arith, ap (λ (t : Tally). t.stored) e);
       answered = omega (arith, ap (λ (t : Tally). t.answered) e);
@@ -125,15 +125,15 @@ turned {ran} {l} o {o₁} {r} said {t} {comp} {before} {after} {n} fits er es ec
           et
           ∙ ap₂ (λ (x : Bool) (y : ℕ). tallied_by x y after (tally_in ran.counts)) whether eb.0
           ∙ ap (tallied_to (tally_in ran.counts)) (ea.0 ∙ ap (λ (x : Outcome). active_buffers x.next) does);
-      most = most-by comp ran.counts t before after eb.1 ea.1 et;
+      most = most_by comp ran.counts t before after eb.1 ea.1 et;
       at = ap (λ (x : Recorded). ran.at + x.length) th.is;
       written = ap (λ (x : ℕ). ran.written + x) (en.0 ∙ ap (λ (x : Outcome). length (answer_bytes x.answer)) does);
       short = omega (arith, en.1);
       out =
-          end-put o o₁ ran.written (omega (arith, fits.space))
+          end_put o o₁ ran.written (omega (arith, fits.space))
           ∙ ap (λ (x : List ℕ). take ran.written o ++ x)
           (eo
-          ∙ ap (put_first (answer_bytes (outcome_of said).answer)) (tail-is o ran.written)
+          ∙ ap (put_first (answer_bytes (outcome_of said).answer)) (tail_is o ran.written)
           ∙ ap (λ (x : Outcome). put_first (answer_bytes x.answer) (drop ran.written o)) does);
     }
   where
@@ -144,7 +144,7 @@ turned {ran} {l} o {o₁} {r} said {t} {comp} {before} {after} {n} fits er es ec
     does = es ∙ ap (step ran.hub) th.call
 
     whether : comp ≡ is_complete (call_there ran.at l)
-    whether = ec ∙ sym (kind-complete r.kind r.numbers _) ∙ ap is_complete th.call
+    whether = ec ∙ sym (kind_complete r.kind r.numbers _) ∙ ap is_complete th.call
 
     tallied_to : Tally → ℕ → Tally
     tallied_to t after = tallied_by (is_complete (call_there ran.at l)) (active_buffers ran.hub) after t

@@ -137,5 +137,5 @@ pub record RecordedReplays (p : ℕ) (css : List (List Call)) : Type 0 where
 
 pub record ReplayClaims : Type 0 where
   pub exact : ReplayExact by_value
-  pub adds-up : ReplayAddsUp by_value
+  pub adds_up : ReplayAddsUp by_value
   pub recorded : (css : List (List Call)) → AllWritable 1 css → RecordedReplays 1 css

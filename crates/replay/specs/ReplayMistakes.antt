@@ -78,8 +78,8 @@ refusals_left_out h p b =
     cond (is_good (verdict_of p b)) (writing (unrefused (run_from rules h (calls_at b))) (played_calls h (calls_at b))) (played_none h (verdict_of p b))
 
 pub record ReplayMistakesShutOut : Type 0 where
-  pub unnumbered-block : ¬ (ReplayExact (playing unnumbered))
-  pub before-bad : ¬ (ReplayExact (playing before_bad))
-  pub swapped-counts : ¬ (ReplayExact (playing swapped))
-  pub emptied-uncounted : ¬ (ReplayAddsUp (playing uncounted))
-  pub refusals-left-out : ¬ (ReplayExact (playing refusals_left_out))
+  pub unnumbered_block : ¬ (ReplayExact (playing unnumbered))
+  pub before_bad_lem : ¬ (ReplayExact (playing before_bad))
+  pub swapped_counts : ¬ (ReplayExact (playing swapped))
+  pub emptied_uncounted : ¬ (ReplayAddsUp (playing uncounted))
+  pub refusals_left_out_lem : ¬ (ReplayExact (playing refusals_left_out))

@@ -19,9 +19,9 @@ read-asks n b h =
     checks (AsksFor n s) n (kind_of s.requesttype s.code) s.value s.index s.length (λ f. tt)
     (asks n s.requesttype s.code s.value s.index s.length (kind_of s.requesttype s.code) h (named_by s.requesttype s.code))
 
-read-ranged : (n : ℕ) (b : List ℕ) → InRange n (request_of n b)
+read_ranged : (n : ℕ) (b : List ℕ) → InRange n (request_of n b)
 unfolding request_of
-read-ranged n b =
+read_ranged n b =
     let s = setup_of b in
     let k = kind_of s.requesttype s.code in
     checks (InRange n) n k s.value s.index s.length (λ f. tt) (λ x y z. ranged n k s.value s.index s.length y)
@@ -29,11 +29,11 @@ read-ranged n b =
 word_back : (v : ℕ) → v % 256 + 256 * (v / 256) ≡ v
 word_back v = omega arith
 
-pub request-claims : RequestClaims
+pub request_claims_lem : RequestClaims
 unfolding request_of
-request-claims =
+request_claims_lem =
     record {
       exact = λ n b r o h. (λ e. subst (AsksFor n (setup_of b)) e (read-asks n b h), reads n (setup_of b) r o);
       bytes_back = λ s. rw (word_back s.value, word_back s.index, word_back s.length);
-      in-range = read-ranged;
+      in_range = read_ranged;
     }

@@ -21,7 +21,7 @@ use Rattle.request.specs.Request.{port_in, meaning, checked}
 use Rattle.port.specs.Words.{Among}
 use Rattle.request.specs.Fields.{PipeInRange, fields, AsksFor}
 use Rattle.request.specs.Ranges.{InRange}
-use Rattle.request.proofs.Written.{by_cond, and_left, and_right, one-back, settable-back, settable-fits, settable-read, clearable-back, clearable-fits, clearable-read, pipe-back, pipe-fits, pipe-read}
+use Rattle.request.proofs.Written.{by_cond, and_left, and_right, one_back, settable_back, settable_fits, settable_read, clearable_back, clearable_fits, clearable_read, pipe_back, pipe_fits, pipe_read}
 
 abbrev TypeAndCode : ℕ → ℕ → Kind → Type 0
 TypeAndCode t c Unknown = Unit {0}
@@ -71,16 +71,16 @@ checks P n k v i l w m =
 same : {t c v i l t' c' v' i' l' : ℕ} → (t ≡ t') × (c ≡ c') → v ≡ v' → i ≡ i' → l ≡ l' → fields t c v i l ≡ fields t' c' v' i' l'
 same w x y z = rw (w.0, w.1, x, y, z)
 
-port-of : (n i : ℕ) → is_port n i ≡ true → Among n (port_in i)
-port-of n i y = (leb-true 1 i (and_left (leb 1 i) (leb i n) y), leb-true i n (and_right (leb 1 i) (leb i n) y))
+port_of_lem : (n i : ℕ) → is_port n i ≡ true → Among n (port_in i)
+port_of_lem n i y = (leb-true 1 i (and_left (leb 1 i) (leb i n) y), leb-true i n (and_right (leb 1 i) (leb i n) y))
 
-zero-or-one : (v : ℕ) → v ≤ 1 → (v ≡ 0) ⊎ (v ≡ 1)
-zero-or-one zero h = inl refl
-zero-or-one (suc zero) h = inr refl
-zero-or-one (suc (suc v)) h = absurd (omega (arith, h))
+zero_or_one : (v : ℕ) → v ≤ 1 → (v ≡ 0) ⊎ (v ≡ 1)
+zero_or_one zero h = inl refl
+zero_or_one (suc zero) h = inr refl
+zero_or_one (suc (suc v)) h = absurd (omega (arith, h))
 
-pipe-ranged : (v : ℕ) → PipeInRange (pipe_in v)
-pipe-ranged v =
+pipe_ranged : (v : ℕ) → PipeInRange (pipe_in v)
+pipe_ranged v =
     let a : v / 16 % 128 < 128 = omega arith in
     let e : v % 16 < 16 = omega arith in
     (a, e)
@@ -88,17 +88,17 @@ pipe-ranged v =
 pub asks : (n t c v i l : ℕ) (k : Kind) → v < 65536 → TypeAndCode t c k → value_fits k v ≡ true → index_fits n k i ≡ true → length_fits k l ≡ true
     → AsksFor n (fields t c v i l) (meaning k v i l)
 asks n t c v i l Unknown h w x y z = tt
-asks n t c v i l SetConfiguration h w x y z = same w (one-back v (leb-true v 1 x)) (eqb-true i 0 y) (eqb-true l 0 z)
+asks n t c v i l SetConfiguration h w x y z = same w (one_back v (leb-true v 1 x)) (eqb-true i 0 y) (eqb-true l 0 z)
 asks n t c v i l GetConfiguration h w x y z = same w (eqb-true v 0 x) (eqb-true i 0 y) (eqb-true l 1 z)
 asks n t c v i l GetHubDescriptor h w x y z = same w (eqb-true v 0x2900 x) (eqb-true i 0 y) refl
 asks n t c v i l GetHubStatus h w x y z = same w (eqb-true v 0 x) (eqb-true i 0 y) (eqb-true l 4 z)
-asks n t c v i l GetPortStatus h w x y z = (port-of n i y, same w (eqb-true v 0 x) refl (eqb-true l 4 z))
+asks n t c v i l GetPortStatus h w x y z = (port_of_lem n i y, same w (eqb-true v 0 x) refl (eqb-true l 4 z))
 asks n t c v i l ClearHubFeature h w x y z =
-    ⊎_map (λ e. same w e (eqb-true i 0 y) (eqb-true l 0 z)) (λ e. same w e (eqb-true i 0 y) (eqb-true l 0 z)) (zero-or-one v (leb-true v 1 x))
-asks n t c v i l ClearPortFeature h w x y z = (port-of n i y, same w (clearable-back v x) refl (eqb-true l 0 z))
-asks n t c v i l SetPortFeature h w x y z = (port-of n i y, same w (settable-back v x) refl (eqb-true l 0 z))
+    ⊎_map (λ e. same w e (eqb-true i 0 y) (eqb-true l 0 z)) (λ e. same w e (eqb-true i 0 y) (eqb-true l 0 z)) (zero_or_one v (leb-true v 1 x))
+asks n t c v i l ClearPortFeature h w x y z = (port_of_lem n i y, same w (clearable_back v x) refl (eqb-true l 0 z))
+asks n t c v i l SetPortFeature h w x y z = (port_of_lem n i y, same w (settable_back v x) refl (eqb-true l 0 z))
 asks n t c v i l ClearTTBuffer h w x y z =
-    (pipe-ranged v, ⊎_map (λ e. same w e (eqb-true i 1 y) (eqb-true l 0 z)) (λ e. same w e (eqb-true i 1 y) (eqb-true l 0 z)) (pipe-back v h x))
+    (pipe_ranged v, ⊎_map (λ e. same w e (eqb-true i 1 y) (eqb-true l 0 z)) (λ e. same w e (eqb-true i 1 y) (eqb-true l 0 z)) (pipe_back v h x))
 asks n t c v i l ResetTT h w x y z = same w (eqb-true v 0 x) (eqb-true i 1 y) (eqb-true l 0 z)
 
 abbrev asked : ℕ → Setup → Request
@@ -117,12 +117,12 @@ reads n s (request.GetHubDescriptor l) o w = ap (asked n) w
 reads n s request.GetHubStatus o w = ap (asked n) w
 reads n s (request.GetPortStatus p) o w = ap (asked n) w.1 ∙ rw (at-port n p w.0)
 reads n s request.ClearHubFeature o w = ⊎_elim (ap (asked n)) (ap (asked n)) w
-reads n s (request.ClearPortFeature p f) o w = ap (asked n) w.1 ∙ rw (clearable-fits f, at-port n p w.0, clearable-read f)
-reads n s (request.SetPortFeature p f) o w = ap (asked n) w.1 ∙ rw (settable-fits f, at-port n p w.0, settable-read f)
+reads n s (request.ClearPortFeature p f) o w = ap (asked n) w.1 ∙ rw (clearable_fits f, at-port n p w.0, clearable_read f)
+reads n s (request.SetPortFeature p f) o w = ap (asked n) w.1 ∙ rw (settable_fits f, at-port n p w.0, settable_read f)
 reads n s (request.ClearTTBuffer k) o w =
     ⊎_elim
-    (λ e. ap (asked n) e ∙ rw (pipe-fits 0 k w.0 refl, pipe-read 0 k w.0 refl))
-    (λ e. ap (asked n) e ∙ rw (pipe-fits 2 k w.0 refl, pipe-read 2 k w.0 refl))
+    (λ e. ap (asked n) e ∙ rw (pipe_fits 0 k w.0 refl, pipe_read 0 k w.0 refl))
+    (λ e. ap (asked n) e ∙ rw (pipe_fits 2 k w.0 refl, pipe_read 2 k w.0 refl))
     w.1
 reads n s request.ResetTT o w = ap (asked n) w
 
@@ -132,9 +132,9 @@ ranged n SetConfiguration v i l y = tt
 ranged n GetConfiguration v i l y = tt
 ranged n GetHubDescriptor v i l y = tt
 ranged n GetHubStatus v i l y = tt
-ranged n GetPortStatus v i l y = port-of n i y
+ranged n GetPortStatus v i l y = port_of_lem n i y
 ranged n ClearHubFeature v i l y = tt
-ranged n ClearPortFeature v i l y = port-of n i y
-ranged n SetPortFeature v i l y = port-of n i y
-ranged n ClearTTBuffer v i l y = pipe-ranged v
+ranged n ClearPortFeature v i l y = port_of_lem n i y
+ranged n SetPortFeature v i l y = port_of_lem n i y
+ranged n ClearTTBuffer v i l y = pipe_ranged v
 ranged n ResetTT v i l y = tt

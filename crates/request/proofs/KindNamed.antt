@@ -25,17 +25,17 @@ kind_named w =
     (cond (eqb w 0x2309) ResetTT
     Unknown)))))))))
 
-pair-at : (t c a b : ℕ) (x y : Bool) → eqb t a ≡ x → eqb c b ≡ y → c < 256 → b < 256 → eqb (word_of c t) (word_of b a) ≡ x && y
-pair-at t c a b true true p q h k = eq-eqb (word_of c t) (word_of b a) (rw (eqb-true t a p, eqb-true c b q))
-pair-at t c a b true false p q h k = ne_eqb (word_of c t) (word_of b a) (λ e. eqb-false c b q (omega (arith, e, h, k)))
-pair-at t c a b false y p q h k = ne_eqb (word_of c t) (word_of b a) (λ e. eqb-false t a p (omega (arith, e, h, k)))
+pair_at : (t c a b : ℕ) (x y : Bool) → eqb t a ≡ x → eqb c b ≡ y → c < 256 → b < 256 → eqb (word_of c t) (word_of b a) ≡ x && y
+pair_at t c a b true true p q h k = eq-eqb (word_of c t) (word_of b a) (rw (eqb-true t a p, eqb-true c b q))
+pair_at t c a b true false p q h k = ne_eqb (word_of c t) (word_of b a) (λ e. eqb-false c b q (omega (arith, e, h, k)))
+pair_at t c a b false y p q h k = ne_eqb (word_of c t) (word_of b a) (λ e. eqb-false t a p (omega (arith, e, h, k)))
 
 pair : (t c a b : ℕ) → c < 256 → b < 256 → eqb (word_of c t) (word_of b a) ≡ eqb t a && eqb c b
-pair t c a b = pair-at t c a b (eqb t a) (eqb c b) refl refl
+pair t c a b = pair_at t c a b (eqb t a) (eqb c b) refl refl
 
-pub kind-named : (t c w : ℕ) → c < 256 → w ≡ word_of c t → kind_named w ≡ kind_of t c
+pub kind_named_lem : (t c w : ℕ) → c < 256 → w ≡ word_of c t → kind_named w ≡ kind_of t c
 unfolding kind_of
-kind-named t c w h e =
+kind_named_lem t c w h e =
     let row : (a b : ℕ) → b < 256 → eqb w (word_of b a) ≡ eqb t a && eqb c b = λ a b k. ap (λ (n : ℕ). eqb n (word_of b a)) e ∙ pair t c a b h k in
     rw (
       row 0x00 0x09 (omega arith),

@@ -14,26 +14,26 @@ use Rattle.request.specs.Table.{kind_of, is_known, value_fits, index_fits, lengt
 use Rattle.request.specs.Request.{meaning, checked, request_of}
 
 module _ (n : ℕ) (b : List ℕ) {s : Setup} {k : Kind} (e : s ≡ setup_of b) (f : k ≡ kind_of s.requesttype s.code) where
-  looked-at : {r : Request} → r ≡ checked n k s.value s.index s.length → r ≡ request_of n b
+  looked_at_lem : {r : Request} → r ≡ checked n k s.value s.index s.length → r ≡ request_of n b
   unfolding request_of
-  looked-at h = rw (h, f, e)
+  looked_at_lem h = rw (h, f, e)
 
   pub wrong_type : is_known k ≡ false → Wrong TypeOrCode ≡ request_of n b
   unfolding checked
-  wrong_type t = looked-at (rw t)
+  wrong_type t = looked_at_lem (rw t)
 
-  pub wrong-value : is_known k ≡ true → value_fits k s.value ≡ false → Wrong Value ≡ request_of n b
+  pub wrong_value_lem : is_known k ≡ true → value_fits k s.value ≡ false → Wrong Value ≡ request_of n b
   unfolding checked
-  wrong-value t v = looked-at (rw (t, v))
+  wrong_value_lem t v = looked_at_lem (rw (t, v))
 
-  pub wrong-index : is_known k ≡ true → value_fits k s.value ≡ true → index_fits n k s.index ≡ false → Wrong Index ≡ request_of n b
+  pub wrong_index_lem : is_known k ≡ true → value_fits k s.value ≡ true → index_fits n k s.index ≡ false → Wrong Index ≡ request_of n b
   unfolding checked
-  wrong-index t v i = looked-at (rw (t, v, i))
+  wrong_index_lem t v i = looked_at_lem (rw (t, v, i))
 
-  pub wrong-length : is_known k ≡ true → value_fits k s.value ≡ true → index_fits n k s.index ≡ true → length_fits k s.length ≡ false → Wrong Length ≡ request_of n b
+  pub wrong_length_lem : is_known k ≡ true → value_fits k s.value ≡ true → index_fits n k s.index ≡ true → length_fits k s.length ≡ false → Wrong Length ≡ request_of n b
   unfolding checked
-  wrong-length t v i l = looked-at (rw (t, v, i, l))
+  wrong_length_lem t v i l = looked_at_lem (rw (t, v, i, l))
 
   pub right : {r : Request} → r ≡ meaning k s.value s.index s.length → is_known k ≡ true → value_fits k s.value ≡ true → index_fits n k s.index ≡ true → length_fits k s.length ≡ true → r ≡ request_of n b
   unfolding checked
-  right m t v i l = looked-at (rw (m, t, v, i, l))
+  right m t v i l = looked_at_lem (rw (m, t, v, i, l))

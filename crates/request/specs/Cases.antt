@@ -137,9 +137,9 @@ abbrev pub AllRead : List Case → Type 0
 AllRead cs = map (λ c. request_of 4 c.bytes) cs ≡ map (λ c. c.request) cs
 
 pub record CasesHold : Type 0 where
-  pub right-read : AllRead right
-  pub value-told : AllRead wrong_value
-  pub index-told : AllRead wrong_index
-  pub length-told : AllRead wrong_length
-  pub type-told : AllRead wrong_type_or_code
-  pub first-told : AllRead several_wrong
+  pub right_read : AllRead right
+  pub value_told : AllRead wrong_value
+  pub index_told : AllRead wrong_index
+  pub length_told : AllRead wrong_length
+  pub type_told : AllRead wrong_type_or_code
+  pub first_told : AllRead several_wrong

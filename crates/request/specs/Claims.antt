@@ -16,4 +16,4 @@ pub record RequestClaims : Type 0 where
   -- all fields can be written
   pub bytes_back : (s : Setup) → setup_of (setup_bytes s) ≡ s
   -- what was read needs no further check of port number, address and endpoint
-  pub in-range : (n : ℕ) (b : List ℕ) → InRange n (request_of n b)
+  pub in_range : (n : ℕ) (b : List ℕ) → InRange n (request_of n b)

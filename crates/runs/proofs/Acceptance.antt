@@ -9,7 +9,7 @@ use borrow.Author.Tests.{eq-eqb, ne_eqb, eqb-true, eqb-false, not-true}
 use lib.ListN.{length, set, replicate}
 use lib.Dec.{eqb}
 use Rattle.payload.specs.Payload.{content, payload_of}
-use Rattle.payload.proofs.Laws.{content-of}
+use Rattle.payload.proofs.Laws.{content_of}
 use Rattle.bools.specs.Bit.{bit}
 use Rattle.buffer.specs.declared.Lane.{Lane}
 use Rattle.buffer.specs.declared.Lane.TheVariants.{Zero}
@@ -30,15 +30,15 @@ use Rattle.translator.specs.Valid.{at_place, Apart}
 use Rattle.translator.specs.Order.{waiting, before, reranked, ranked_in, ranked}
 use Rattle.translator.specs.Answers.{lane_number, pid_number}
 use Rattle.translator.specs.ResetLane.{without_lane}
-use Rattle.translator.proofs.At.{at_same, at_other, at-cases, at-ranked, pending-reranked}
+use Rattle.translator.proofs.At.{at_same, at_other, at_cases, at-ranked, pending_reranked}
 use Rattle.translator.proofs.Ranks.{rank_lt, rank_below}
-use Rattle.numbers.proofs.Laws.{numbers-claims}
+use Rattle.numbers.proofs.Laws.{numbers_claims_lem}
 use Rattle.numbers.specs.Written.{type_number}
 use Rattle.hub.specs.Call.{Call, Start}
 use Rattle.runs.specs.History.{Event, History, starts, resets, asks, is_done, is_open, stores, last_stored}
 use Rattle.runs.specs.Order.{pending_after, is_pending_at, call_at, is_from}
-use Rattle.runs.proofs.Histories.{Below, stored-below, not_new, some_inj, one_key, keeps-start, start-stores, reset-stores}
-use Rattle.runs.proofs.Invariant.{Inv, idle-closed, lane_of, Spared, spared, left_alone}
+use Rattle.runs.proofs.Histories.{Below, stored-below, not_new, some_inj, one_key, keeps_start, start_stores, reset_stores}
+use Rattle.runs.proofs.Invariant.{Inv, idle_closed, lane_of, Spared, spared, left_alone}
 
 -- ---- what a pending slot holds
 
@@ -63,11 +63,11 @@ key_in s = key.key_of (split_in s)
 abbrev pub Waits : List Buffer → ℕ → Type 0
 Waits bs i = is_pending (at bs i).slot ≡ true
 
-pub waits-holds : (s : Slot) → is_pending s ≡ true → holds (key_in s) s ≡ true
-waits-holds Empty e = e
-waits-holds (Pending s p) e = same_refl (key.key_of s)
-waits-holds (Ready s r) e = absurd (false≢true e)
-waits-holds (Old s r) e = absurd (false≢true e)
+pub waits_holds : (s : Slot) → is_pending s ≡ true → holds (key_in s) s ≡ true
+waits_holds Empty e = e
+waits_holds (Pending s p) e = same_refl (key.key_of s)
+waits_holds (Ready s r) e = absurd (false≢true e)
+waits_holds (Old s r) e = absurd (false≢true e)
 
 pub holds-key : (k : Key) (s : Slot) → holds k s ≡ true → key_in s ≡ k
 holds-key k Empty e = absurd (false≢true e)
@@ -75,11 +75,11 @@ holds-key k (Pending s p) e = same_true (key.key_of s) k e
 holds-key k (Ready s r) e = same_true (key.key_of s) k e
 holds-key k (Old s r) e = same_true (key.key_of s) k e
 
-pub waits-placed : (s : Slot) → is_pending s ≡ true → at_place (place_in s) s ≡ true
-waits-placed Empty e = e
-waits-placed (Pending s p) e = eq-eqb p p refl
-waits-placed (Ready s r) e = absurd (false≢true e)
-waits-placed (Old s r) e = absurd (false≢true e)
+pub waits_placed : (s : Slot) → is_pending s ≡ true → at_place (place_in s) s ≡ true
+waits_placed Empty e = e
+waits_placed (Pending s p) e = eq-eqb p p refl
+waits_placed (Ready s r) e = absurd (false≢true e)
+waits_placed (Old s r) e = absurd (false≢true e)
 
 key-reranked : (bs : List Buffer) (s : Slot) → split_in (reranked bs s) ≡ split_in s
 key-reranked bs Empty = refl
@@ -99,10 +99,10 @@ call_of s l = Start (lane_number s.lane) (pid_number s.pid) (type_number s.trans
 
 pub ranked-below : (bs : List Buffer) (i : ℕ) → Waits (ranked bs) i → place_in (at (ranked bs) i).slot < waiting bs
 ranked-below bs i w =
-    let was : Waits bs i = sym (ap (λ (b : Buffer). is_pending b.slot) (at-ranked bs i) ∙ pending-reranked bs (at bs i).slot) ∙ w in
+    let was : Waits bs i = sym (ap (λ (b : Buffer). is_pending b.slot) (at-ranked bs i) ∙ pending_reranked bs (at bs i).slot) ∙ w in
     let place : place_in (at (ranked bs) i).slot ≡ before (place_in (at bs i).slot) bs =
     ap (λ (b : Buffer). place_in b.slot) (at-ranked bs i) ∙ place-reranked bs (at bs i).slot was in
-    let below : before (place_in (at bs i).slot) bs < waiting bs = rank_below bs i (place_in (at bs i).slot) (waits-placed (at bs i).slot was) in
+    let below : before (place_in (at bs i).slot) bs < waiting bs = rank_below bs i (place_in (at bs i).slot) (waits_placed (at bs i).slot was) in
     omega (arith, place, below)
 
 -- ---- the invariant
@@ -131,8 +131,8 @@ unfolding call_at
 call_kept h e k s c l f = rw (ne_eqb s (length h) (λ q. not_new h k l (sym q))) f
 
 -- numbering anew by rank keeps the order
-pub queue-ranked : (h : History) (bs : List Buffer) → Queue h bs → Queue h (ranked bs)
-queue-ranked h bs queue =
+pub queue_ranked : (h : History) (bs : List Buffer) → Queue h bs → Queue h (ranked bs)
+queue_ranked h bs queue =
     record {
       stands = λ i w. subst (Stands h) (sym (at-ranked bs i)) (moved i (queue.stands i (was i w)));
       known = λ s p.
@@ -142,12 +142,12 @@ queue-ranked h bs queue =
           let a : place_in (at bs i).slot < place_in (at bs j).slot =
           queue.order i j s r (was i w) (was j v) (ap (last_stored h) (sym (under i)) ∙ e) (ap (last_stored h) (sym (under j)) ∙ f) l in
           let b : before (place_in (at bs i).slot) bs < before (place_in (at bs j).slot) bs =
-          rank_lt bs i (place_in (at bs i).slot) (waits-placed (at bs i).slot (was i w)) (place_in (at bs j).slot) a in
-          omega (arith, b, new-place i w, new-place j v);
+          rank_lt bs i (place_in (at bs i).slot) (waits_placed (at bs i).slot (was i w)) (place_in (at bs j).slot) a in
+          omega (arith, b, new_place i w, new_place j v);
     }
   where
     is : (i : ℕ) → is_pending (at (ranked bs) i).slot ≡ is_pending (at bs i).slot
-    is i = ap (λ (b : Buffer). is_pending b.slot) (at-ranked bs i) ∙ pending-reranked bs (at bs i).slot
+    is i = ap (λ (b : Buffer). is_pending b.slot) (at-ranked bs i) ∙ pending_reranked bs (at bs i).slot
 
     was : (i : ℕ) → Waits (ranked bs) i → Waits bs i
     was i w = sym (is i) ∙ w
@@ -155,8 +155,8 @@ queue-ranked h bs queue =
     under : (i : ℕ) → key_in (at (ranked bs) i).slot ≡ key_in (at bs i).slot
     under i = ap (λ (b : Buffer). key_in b.slot) (at-ranked bs i) ∙ ap key.key_of (key-reranked bs (at bs i).slot)
 
-    new-place : (i : ℕ) → Waits (ranked bs) i → place_in (at (ranked bs) i).slot ≡ before (place_in (at bs i).slot) bs
-    new-place i w = ap (λ (b : Buffer). place_in b.slot) (at-ranked bs i) ∙ place-reranked bs (at bs i).slot (was i w)
+    new_place : (i : ℕ) → Waits (ranked bs) i → place_in (at (ranked bs) i).slot ≡ before (place_in (at bs i).slot) bs
+    new_place i w = ap (λ (b : Buffer). place_in b.slot) (at-ranked bs i) ∙ place-reranked bs (at bs i).slot (was i w)
 
     moved : (i : ℕ) → Stands h (at bs i) → Stands h (ranked_in bs (at bs i))
     moved i s =
@@ -170,8 +170,8 @@ queue-ranked h bs queue =
 -- ---- an event that changes no buffer, nor what is pending
 
 module _ (h : History) (e : Event) (bs : List Buffer) (queue : Queue h bs) (same : (l : Key) → last_stored (e ∷ h) l ≡ last_stored h l) where
-  pub queue-quiet : ((s : ℕ) → is_pending_at (e ∷ h) s ≡ is_pending_at h s) → Queue (e ∷ h) bs
-  queue-quiet still =
+  pub queue_quiet : ((s : ℕ) → is_pending_at (e ∷ h) s ≡ is_pending_at h s) → Queue (e ∷ h) bs
+  queue_quiet still =
       record {
         stands = λ i w.
             let s : Stands h (at bs i) = queue.stands i w in
@@ -196,10 +196,10 @@ module _ (h : History) (e : Event) (bs : List Buffer) (queue : Queue h bs) (same
     was : (j : ℕ) → Waits (set bs i b) j → at (set bs i b) j ≡ at bs j
     was j w = at_other bs i b here j (else j w)
 
-    pub queue-left : ((j s : ℕ) → ¬ (j ≡ i) → Waits bs j → last_stored h (key_in (at bs j).slot) ≡ some s → is_pending_at h s ≡ true → is_pending_at (e ∷ h) s ≡ true)
+    pub queue_left : ((j s : ℕ) → ¬ (j ≡ i) → Waits bs j → last_stored h (key_in (at bs j).slot) ≡ some s → is_pending_at h s ≡ true → is_pending_at (e ∷ h) s ≡ true)
         → ((s : ℕ) → is_pending_at (e ∷ h) s ≡ true → (is_pending_at h s ≡ true) × (Waits bs i → ¬ (last_stored h (key_in (at bs i).slot) ≡ some s)))
         → Queue (e ∷ h) (set bs i b)
-    queue-left stay only =
+    queue_left stay only =
         record {
           stands = λ j w. subst (Stands (e ∷ h)) (sym (was j w)) (stood j (else j w) (subst (λ (x : Buffer). is_pending x.slot ≡ true) (was j w) w));
           known = λ s p. knew s (only s p);
@@ -236,37 +236,37 @@ module _ (h : History) (e : Event) (bs : List Buffer) (queue : Queue h bs) (same
             }
 
     -- the start-split p, which buffer i holds under the key k, is no longer pending
-    pub queue-gone : (k : Key) → Apart (holds k) bs → holds k (at bs i).slot ≡ true → (p : ℕ) → last_stored h k ≡ some p
+    pub queue_gone : (k : Key) → Apart (holds k) bs → holds k (at bs i).slot ≡ true → (p : ℕ) → last_stored h k ≡ some p
         → ((s : ℕ) → is_pending_at (e ∷ h) s ≡ (not (eqb p s) && is_pending_at h s)) → Queue (e ∷ h) (set bs i b)
-    queue-gone k apart hd p placed gone = queue-left
+    queue_gone k apart hd p placed gone = queue_left
         (λ j s ne w l q. gone s ∙ rw (ne_eqb p s (λ u. ne (apart j i (mine j w (one_key h (key_in (at bs j).slot) k s l (placed ∙ ap some u))) hd)), q))
         (λ s q.
         let both = (and-eq-true_iff (not (eqb p s)) (is_pending_at h s)).0 (sym (gone s) ∙ q) in
         (both.1, λ w l. eqb-false p s (not-true (eqb p s) both.0) (some_inj (sym placed ∙ (ap (last_stored h) (sym (holds-key k (at bs i).slot hd)) ∙ l)))))
       where
         mine : (j : ℕ) → Waits bs j → key_in (at bs j).slot ≡ k → holds k (at bs j).slot ≡ true
-        mine j w u = ap (λ (x : Key). holds x (at bs j).slot) (sym u) ∙ waits-holds (at bs j).slot w
+        mine j w u = ap (λ (x : Key). holds x (at bs j).slot) (sym u) ∙ waits_holds (at bs j).slot w
 
 -- ---- a start-split is stored, in the last place
 
-pub queue-into : (h : History) (e : Event) (bs : List Buffer) (low : LowSide) → Inv h bs low → Queue h bs → (s : StartSplit) (l : List ℕ) (i n : ℕ)
+pub queue_into : (h : History) (e : Event) (bs : List Buffer) (low : LowSide) → Inv h bs low → Queue h bs → (s : StartSplit) (l : List ℕ) (i n : ℕ)
     → asks e.call ≡ starts (key.key_of s) → is_done e.answer ≡ true → e.call ≡ call_of s l → length l ≤ 64 → i < length bs → is_free (at bs i).slot ≡ true
     → ((j : ℕ) → holds (key.key_of s) (at bs j).slot ≡ true → j ≡ i) → ((j : ℕ) → Waits bs j → place_in (at bs j).slot < n)
     → Queue (e ∷ h) (set bs i (record { slot = Pending s n; payload = payload_of l }))
 unfolding is_pending_at pending_after call_at stores
-queue-into h e bs low inv queue s l i n q d says short here free only last =
+queue_into h e bs low inv queue s l i n q d says short here free only last =
     record {
-      stands = λ j. at-cases bs i b here (λ (y : Buffer). is_pending y.slot ≡ true → Stands (e ∷ h) y) j (λ _ _. new) (old j);
+      stands = λ j. at_cases bs i b here (λ (y : Buffer). is_pending y.slot ≡ true → Stands (e ∷ h) y) j (λ _ _. new) (old j);
       known = λ x p. knew x ((is_done e.answer && same_key k k) && not (is_open h k)) (eqb x (length h)) refl (is_pending_at h x) refl (rw q at p);
       order = λ j m x y.
-          at-cases bs i b here (λ (c : Buffer). is_pending c.slot ≡ true → Waits (set bs i b) m → last_stored (e ∷ h) (key_in c.slot) ≡ some x
+          at_cases bs i b here (λ (c : Buffer). is_pending c.slot ≡ true → Waits (set bs i b) m → last_stored (e ∷ h) (key_in c.slot) ≡ some x
           → last_stored (e ∷ h) (key_in (at (set bs i b) m).slot) ≡ some y → x < y → place_in c.slot < place_in (at (set bs i b) m).slot) j
-          (λ _ _. at-cases bs i b here (λ (z : Buffer). is_pending z.slot ≡ true → last_stored (e ∷ h) k ≡ some x
+          (λ _ _. at_cases bs i b here (λ (z : Buffer). is_pending z.slot ≡ true → last_stored (e ∷ h) k ≡ some x
           → last_stored (e ∷ h) (key_in z.slot) ≡ some y → x < y → n < place_in z.slot) m
           (λ _ _ f g lt. absurd (let u : x ≡ y = some_inj (sym f ∙ g) in omega (arith, u, lt)))
           (λ ne w f g lt. absurd (let u : x ≡ length h = some_inj (sym f ∙ placed) in
           let z : y < length h = below (key_in (at bs m).slot) y (sym (kept m ne w) ∙ g) in omega (arith, u, z, lt))))
-          (λ nj wj. at-cases bs i b here (λ (z : Buffer). is_pending z.slot ≡ true → last_stored (e ∷ h) (key_in (at bs j).slot) ≡ some x
+          (λ nj wj. at_cases bs i b here (λ (z : Buffer). is_pending z.slot ≡ true → last_stored (e ∷ h) (key_in (at bs j).slot) ≡ some x
           → last_stored (e ∷ h) (key_in z.slot) ≡ some y → x < y → place_in (at bs j).slot < place_in z.slot) m
           (λ _ _ f g lt. last j wj)
           (λ nl wl f g lt. queue.order j m x y wj wl (sym (kept j nj wj) ∙ f) (sym (kept m nl wl) ∙ g) lt));
@@ -278,20 +278,20 @@ queue-into h e bs low inv queue s l i n q d says short here free only last =
     b : Buffer
     b = record { slot = Pending s n; payload = payload_of l }
 
-    was-closed : is_open h (key.key_of s) ≡ false
-    was-closed = idle-closed inv i free (key.key_of s) (λ j ne. no-hold j ne (holds (key.key_of s) (at bs j).slot) refl)
+    was_closed : is_open h (key.key_of s) ≡ false
+    was_closed = idle_closed inv i free (key.key_of s) (λ j ne. no_hold j ne (holds (key.key_of s) (at bs j).slot) refl)
       where
-        no-hold : (j : ℕ) → ¬ (j ≡ i) → (x : Bool) → holds (key.key_of s) (at bs j).slot ≡ x → x ≡ false
-        no-hold j ne true w = absurd (ne (only j w))
-        no-hold j ne false w = refl
+        no_hold : (j : ℕ) → ¬ (j ≡ i) → (x : Bool) → holds (key.key_of s) (at bs j).slot ≡ x → x ≡ false
+        no_hold j ne true w = absurd (ne (only j w))
+        no_hold j ne false w = refl
 
     placed : last_stored (e ∷ h) (key.key_of s) ≡ some (length h)
-    placed = start-stores h e (key.key_of s) q d was-closed
+    placed = start_stores h e (key.key_of s) q d was_closed
 
     kept : (j : ℕ) → ¬ (j ≡ i) → Waits bs j → last_stored (e ∷ h) (key_in (at bs j).slot) ≡ last_stored h (key_in (at bs j).slot)
     kept j ne w =
-        (keeps-start h e (key.key_of s) q d).stored-kept (key_in (at bs j).slot)
-        (λ u. ne (only j (ap (λ (x : Key). holds x (at bs j).slot) u ∙ waits-holds (at bs j).slot w)))
+        (keeps_start h e (key.key_of s) q d).stored_kept (key_in (at bs j).slot)
+        (λ u. ne (only j (ap (λ (x : Key). holds x (at bs j).slot) u ∙ waits_holds (at bs j).slot w)))
 
     below : (x : Key) (y : ℕ) → last_stored h x ≡ some y → y < length h
     below x y f = subst (λ (o : Option ℕ). Below o (length h)) f (stored-below h x)
@@ -301,8 +301,8 @@ queue-into h e bs low inv queue s l i n q d says short here free only last =
         record {
           place = length h;
           placed = placed;
-          pending = rw (q, d, same_refl (key.key_of s), was-closed, eq-eqb (length h) (length h) refl);
-          asked = rw (eq-eqb (length h) (length h) refl, content-of l short) (ap some says);
+          pending = rw (q, d, same_refl (key.key_of s), was_closed, eq-eqb (length h) (length h) refl);
+          asked = rw (eq-eqb (length h) (length h) refl, content_of l short) (ap some says);
         }
 
     old : (j : ℕ) → ¬ (j ≡ i) → Waits bs j → Stands (e ∷ h) (at bs j)
@@ -340,8 +340,8 @@ queue-into h e bs low inv queue s l i n q d says short here free only last =
     knew x false v f false g p = absurd (false≢true p)
 
 -- every buffer is empty
-pub queue-empty : (h : History) → ((s : ℕ) → is_pending_at h s ≡ false) → Queue h (replicate 4 vacant)
-queue-empty h idle-all =
+pub queue_empty : (h : History) → ((s : ℕ) → is_pending_at h s ≡ false) → Queue h (replicate 4 vacant)
+queue_empty h idle-all =
     record {
       stands = λ i w. absurd (true≢false (sym w ∙ idle i));
       known = λ s p. absurd (true≢false (sym p ∙ idle-all s));
@@ -358,21 +358,21 @@ queue-empty h idle-all =
 -- ---- a lane's buffers are emptied
 
 module _ (h : History) (e : Event) (bs : List Buffer) (queue : Queue h bs) (z : Lane) (q : asks e.call ≡ resets z) (d : is_done e.answer ≡ true) where
-  same-stored : (l : Key) → last_stored (e ∷ h) l ≡ last_stored h l
-  same-stored = reset-stores h e z q d
+  same_stored : (l : Key) → last_stored (e ∷ h) l ≡ last_stored h l
+  same_stored = reset_stores h e z q d
 
   -- whether the start-split of a pending buffer is the lane's
-  from-lane : (i : ℕ) → Waits bs i → (s : Stands h (at bs i)) → is_from z (call_at h s.place) ≡ in_lane z (at bs i).slot
-  from-lane i w s =
-      ap (is_from z) s.asked ∙ ap (λ (y : Lane). key.same_lane y z) (numbers-claims.lanes.value-back (split_in (at bs i).slot).lane)
-      ∙ sym (lane_of z (key_in (at bs i).slot) (at bs i).slot (waits-holds (at bs i).slot w))
+  from_lane : (i : ℕ) → Waits bs i → (s : Stands h (at bs i)) → is_from z (call_at h s.place) ≡ in_lane z (at bs i).slot
+  from_lane i w s =
+      ap (is_from z) s.asked ∙ ap (λ (y : Lane). key.same_lane y z) (numbers_claims_lem.lanes.value_back (split_in (at bs i).slot).lane)
+      ∙ sym (lane_of z (key_in (at bs i).slot) (at bs i).slot (waits_holds (at bs i).slot w))
 
   after : (s : ℕ) → is_pending_at (e ∷ h) s ≡ (not (is_from z (call_at h s)) && is_pending_at h s)
   unfolding is_pending_at pending_after
   after s = rw (q, d)
 
-  pub queue-reset : Queue (e ∷ h) (map (without_lane z) bs)
-  queue-reset =
+  pub queue_reset : Queue (e ∷ h) (map (without_lane z) bs)
+  queue_reset =
       record {
         stands = λ i w. let x = left i w in subst (Stands (e ∷ h)) (sym x.same) (stood i x.passes x.other);
         known = λ s p.
@@ -382,8 +382,8 @@ module _ (h : History) (e : Event) (bs : List Buffer) (queue : Queue h bs) (z : 
             let x = left i w in
             let y = left j v in
             let o : s < r → place_in (at bs i).slot < place_in (at bs j).slot =
-            queue.order i j s r x.passes y.passes (sym (same-stored (key_in (at bs i).slot)) ∙ (ap (λ (b : Buffer). last_stored (e ∷ h) (key_in b.slot)) (sym x.same) ∙ f))
-            (sym (same-stored (key_in (at bs j).slot)) ∙ (ap (λ (b : Buffer). last_stored (e ∷ h) (key_in b.slot)) (sym y.same) ∙ g)) in
+            queue.order i j s r x.passes y.passes (sym (same_stored (key_in (at bs i).slot)) ∙ (ap (λ (b : Buffer). last_stored (e ∷ h) (key_in b.slot)) (sym x.same) ∙ f))
+            (sym (same_stored (key_in (at bs j).slot)) ∙ (ap (λ (b : Buffer). last_stored (e ∷ h) (key_in b.slot)) (sym y.same) ∙ g)) in
             λ lt.
             let a : place_in (at (map (without_lane z) bs) i).slot ≡ place_in (at bs i).slot = ap (λ (b : Buffer). place_in b.slot) x.same in
             let b : place_in (at (map (without_lane z) bs) j).slot ≡ place_in (at bs j).slot = ap (λ (b : Buffer). place_in b.slot) y.same in
@@ -398,8 +398,8 @@ module _ (h : History) (e : Event) (bs : List Buffer) (queue : Queue h bs) (z : 
           let s : Stands h (at bs i) = queue.stands i w in
           record {
             place = s.place;
-            placed = same-stored (key_in (at bs i).slot) ∙ s.placed;
-            pending = after s.place ∙ rw (from-lane i w s, n, s.pending);
+            placed = same_stored (key_in (at bs i).slot) ∙ s.placed;
+            pending = after s.place ∙ rw (from_lane i w s, n, s.pending);
             asked = call_kept h e (key_in (at bs i).slot) s.place _ s.placed s.asked;
           }
 
@@ -408,10 +408,10 @@ module _ (h : History) (e : Event) (bs : List Buffer) (queue : Queue h bs) (z : 
           let x : Stands h (at bs k.spot) = queue.stands k.spot k.waits in
           let here : x.place ≡ s = some_inj (sym x.placed ∙ k.placed) in
           let other : in_lane z (at bs k.spot).slot ≡ false =
-          sym (from-lane k.spot k.waits x) ∙ (ap (λ (m : ℕ). is_from z (call_at h m)) here ∙ n) in
+          sym (from_lane k.spot k.waits x) ∙ (ap (λ (m : ℕ). is_from z (call_at h m)) here ∙ n) in
           let kept : at (map (without_lane z) bs) k.spot ≡ at bs k.spot = left_alone z bs k.spot other in
           record {
             spot = k.spot;
             waits = ap (λ (b : Buffer). is_pending b.slot) kept ∙ k.waits;
-            placed = same-stored (key_in (at (map (without_lane z) bs) k.spot).slot) ∙ (ap (λ (b : Buffer). last_stored h (key_in b.slot)) kept ∙ k.placed);
+            placed = same_stored (key_in (at (map (without_lane z) bs) k.spot).slot) ∙ (ap (λ (b : Buffer). last_stored h (key_in b.slot)) kept ∙ k.placed);
           }

@@ -26,10 +26,10 @@ count_none f zero e = refl
 count_none f (suc n) e = omega (arith, ap bit (e n (omega arith)), count_none f n (λ s l. e s (omega arith)))
 
 -- each number that passes f passes just one of three tests
-pub count-sum : (f p q r : ℕ → Bool) (n : ℕ) → ((s : ℕ) → bit (f s) ≡ bit (p s) + bit (q s) + bit (r s)) → count_to f n ≡ count_to p n + count_to q n + count_to r n
+pub count_sum : (f p q r : ℕ → Bool) (n : ℕ) → ((s : ℕ) → bit (f s) ≡ bit (p s) + bit (q s) + bit (r s)) → count_to f n ≡ count_to p n + count_to q n + count_to r n
 unfolding count_to
-count-sum f p q r zero e = refl
-count-sum f p q r (suc n) e = omega (arith, e n, count-sum f p q r n e)
+count_sum f p q r zero e = refl
+count_sum f p q r (suc n) e = omega (arith, e n, count_sum f p q r n e)
 
 -- all but s
 abbrev pub without : ℕ → (ℕ → Bool) → ℕ → Bool

@@ -32,7 +32,7 @@ use Rattle.runs.specs.Altered as of
 use Rattle.runs.specs.Altered.{answering, Field, field_of}
 use Rattle.runs.specs.Demand2.{Demand2}
 use Rattle.runs.specs.EmptyPrograms.{EmptyProgramsShutOut}
-use Rattle.runs.proofs.Refuted.{bench, configure, in-to, complete}
+use Rattle.runs.proofs.Refuted.{bench, configure, in_to, complete}
 
 -- what call i of a run answered
 abbrev answer_at : ℕ → List Event → Answer
@@ -42,39 +42,39 @@ abbrev number_at : ℕ → List Event → ℕ
 number_at i es = (answer_at i es).number
 
 -- a start-split none of whose numbers is 0, and its launch
-abbrev in-full : Call
-in-full = Start 1 9 2 1 1 5 1 []
+abbrev in_full : Call
+in_full = Start 1 9 2 1 1 5 1 []
 
 abbrev launched : Answer
 launched = record { number = 1; pid = 9; transfer = 2; lane = 1; address = 5; endpoint = 1; direction = 1; lowspeed = 1; toggle = 1; bytes = [] }
 
-none-zero : (f : Field) → ¬ (0 ≡ field_of f launched)
-none-zero of.number e = omega (arith, e)
-none-zero of.pid e = omega (arith, e)
-none-zero of.transfer e = omega (arith, e)
-none-zero of.lane e = omega (arith, e)
-none-zero of.address e = omega (arith, e)
-none-zero of.endpoint e = omega (arith, e)
-none-zero of.direction e = omega (arith, e)
-none-zero of.lowspeed e = omega (arith, e)
-none-zero of.toggle e = omega (arith, e)
+none_zero : (f : Field) → ¬ (0 ≡ field_of f launched)
+none_zero of.number e = omega (arith, e)
+none_zero of.pid e = omega (arith, e)
+none_zero of.transfer e = omega (arith, e)
+none_zero of.lane e = omega (arith, e)
+none_zero of.address e = omega (arith, e)
+none_zero of.endpoint e = omega (arith, e)
+none_zero of.direction e = omega (arith, e)
+none_zero of.lowspeed e = omega (arith, e)
+none_zero of.toggle e = omega (arith, e)
 
 dropping : (f : Field) (drop : Answer → Answer) → ((a : Answer) → field_of f (drop a) ≡ 0) → ¬ (Demand2 (answering (λ h a. drop a)))
 unfolding bench run_from payload_of same_key port_at numbers_fit start_fits front swept bitmap_of find chosen permitted pass tally ranked earliest stored start_split complete_split launch split_named split_from key_named key_from kind_of checked request_of configured_as ticked_hub requested polled within has_space not_silent fitting served step
 dropping f drop is claim =
     let z : field_of f (drop launched) ≡ field_of f launched =
-    ap (λ (es : List Event). field_of f (answer_at 2 es)) (claim bench (configure ∷ in-full ∷ Launch 64 ∷ [])) in
-    none-zero f (sym (is launched) ∙ z)
+    ap (λ (es : List Event). field_of f (answer_at 2 es)) (claim bench (configure ∷ in_full ∷ Launch 64 ∷ [])) in
+    none_zero f (sym (is launched) ∙ z)
 
-pub empty-programs-shut-out : EmptyProgramsShutOut
+pub empty_programs_shut_out_lem : EmptyProgramsShutOut
 unfolding bench run_from payload_of same_key port_at numbers_fit start_fits front swept bitmap_of find chosen permitted pass tally ranked earliest stored start_split complete_split split_named split_from key_named key_from kind_of checked request_of configured_as ticked_hub requested polled within has_space not_silent fitting served step
-empty-programs-shut-out =
+empty_programs_shut_out_lem =
     record {
       refusing = λ claim. let z : ◌≡◌ {A = ℕ} 8 0 = ap (number_at 0) (claim bench (Tick ∷ [])) in omega (arith, z);
       naking = λ claim. let z : ◌≡◌ {A = ℕ} 3 0 = ap (number_at 0) (claim bench (Tick ∷ [])) in omega (arith, z);
       idle = λ claim. let z : ◌≡◌ {A = ℕ} 5 3 = ap (number_at 1) (claim bench (configure ∷ Poll 0 64 ∷ [])) in omega (arith, z);
       pretending = λ claim.
-          let z : ◌≡◌ {A = ℕ} 2 4 = ap (number_at 3) (claim bench (configure ∷ in-to 5 ∷ in-to 6 ∷ complete 6 1 ∷ [])) in
+          let z : ◌≡◌ {A = ℕ} 2 4 = ap (number_at 3) (claim bench (configure ∷ in_to 5 ∷ in_to 6 ∷ complete 6 1 ∷ [])) in
           omega (arith, z);
       -- GetConfiguration gives 1
       zeroing = λ claim.

@@ -12,7 +12,7 @@ use Rattle.buffer.specs.declared.Lane.{Lane}
 use Rattle.buffer.specs.declared.Key.{Key}
 use Rattle.buffer.specs.Same.{same_key}
 use Rattle.buffer.specs.Key.{same_lane}
-use Rattle.buffer.proofs.Keys.{same_true, same_refl, same-eq}
+use Rattle.buffer.proofs.Keys.{same_true, same_refl, same_eq}
 use Rattle.numbers.specs.Named.{lane_from}
 use Rattle.request.specs.declared.Kind.{Kind}
 use Rattle.request.specs.declared.Kind.TheVariants as kind
@@ -24,42 +24,42 @@ use Rattle.runs.specs.Order.{call_at, is_from}
 use Rattle.runs.specs.Tally.{stores_it, answers_it, empties_it, is_stored_at, is_answered_at, is_emptied_at}
 use Rattle.runs.proofs.Histories.{Below, stored-below, not_new, some_inj, one_key}
 
-pub is-at : (o : Option ℕ) (s : ℕ) → is_at o s ≡ true → o ≡ some s
-is-at none s e = absurd (false≢true e)
-is-at (some n) s e = ap some (eqb-true n s e)
+pub is_at_lem : (o : Option ℕ) (s : ℕ) → is_at o s ≡ true → o ≡ some s
+is_at_lem none s e = absurd (false≢true e)
+is_at_lem (some n) s e = ap some (eqb-true n s e)
 
-pub at-is : (o : Option ℕ) (s : ℕ) → o ≡ some s → is_at o s ≡ true
-at-is o s e = ap (λ (x : Option ℕ). is_at x s) e ∙ eq-eqb s s refl
+pub at_is : (o : Option ℕ) (s : ℕ) → o ≡ some s → is_at o s ≡ true
+at_is o s e = ap (λ (x : Option ℕ). is_at x s) e ∙ eq-eqb s s refl
 
 -- ---- what waits was stored, and neither answered nor emptied
 
 pub record Waiting (st an em : Bool) : Type 0 where
-  pub was-stored : st ≡ true
-  pub not-answered : an ≡ false
-  pub not-emptied : em ≡ false
+  pub was_stored : st ≡ true
+  pub not_answered : an ≡ false
+  pub not_emptied : em ≡ false
 
 pub waiting : (st an em : Bool) → (st && (not an && not em)) ≡ true → Waiting st an em
-waiting true false false e = record { was-stored = refl; not-answered = refl; not-emptied = refl }
+waiting true false false e = record { was_stored = refl; not_answered = refl; not_emptied = refl }
 waiting true false true e = absurd (false≢true e)
 waiting true true em e = absurd (false≢true e)
 waiting false an em e = absurd (false≢true e)
 
 pub waits : (st an em : Bool) → Waiting st an em → (st && (not an && not em)) ≡ true
-waits st an em w = rw (w.was-stored, w.not-answered, w.not-emptied)
+waits st an em w = rw (w.was_stored, w.not_answered, w.not_emptied)
 
 -- ---- a start-split that is yet to come was neither stored nor answered nor emptied
 
-at-late : (h : History) (k : Key) (s : ℕ) → length h ≤ s → is_at (last_stored h k) s ≡ false
-at-late h k s l = go (last_stored h k) (stored-below h k)
+at_late : (h : History) (k : Key) (s : ℕ) → length h ≤ s → is_at (last_stored h k) s ≡ false
+at_late h k s l = go (last_stored h k) (stored-below h k)
   where
     go : (o : Option ℕ) → Below o (length h) → is_at o s ≡ false
     go none b = refl
     go (some n) b = ne_eqb n s (λ e. omega (arith, e, b, l))
 
-pub late-stored : (h : History) (s : ℕ) → length h ≤ s → is_stored_at h s ≡ false
+pub late_stored : (h : History) (s : ℕ) → length h ≤ s → is_stored_at h s ≡ false
 unfolding is_stored_at stores_it
-late-stored [] s l = refl
-late-stored (e ∷ h) s l = go (asks e.call) (late-stored h s (omega arith))
+late_stored [] s l = refl
+late_stored (e ∷ h) s l = go (asks e.call) (late_stored h s (omega arith))
   where
     go : (x : Asks) → is_stored_at h s ≡ false → (stores_it x e.answer h s || is_stored_at h s) ≡ false
     go nothing p = p
@@ -71,25 +71,25 @@ late-stored (e ∷ h) s l = go (asks e.call) (late-stored h s (omega arith))
     go (resets z) p = p
     go empties p = p
 
-pub late-answered : (h : History) (s : ℕ) → length h ≤ s → is_answered_at h s ≡ false
+pub late_answered : (h : History) (s : ℕ) → length h ≤ s → is_answered_at h s ≡ false
 unfolding is_answered_at answers_it
-late-answered [] s l = refl
-late-answered (e ∷ h) s l = go (asks e.call) (late-answered h s (omega arith))
+late_answered [] s l = refl
+late_answered (e ∷ h) s l = go (asks e.call) (late_answered h s (omega arith))
   where
     go : (x : Asks) → is_answered_at h s ≡ false → (answers_it x e.answer h s || is_answered_at h s) ≡ false
     go nothing p = p
     go (starts k) p = p
-    go (completes k) p = rw (p, at-late h k s (omega arith), and-false (gives_result e.answer))
+    go (completes k) p = rw (p, at_late h k s (omega arith), and-false (gives_result e.answer))
     go launches p = p
     go (delivers r y) p = p
     go (clears k) p = p
     go (resets z) p = p
     go empties p = p
 
-pub late-emptied : (h : History) (s : ℕ) → length h ≤ s → is_emptied_at h s ≡ false
+pub late_emptied : (h : History) (s : ℕ) → length h ≤ s → is_emptied_at h s ≡ false
 unfolding is_emptied_at
-late-emptied [] s l = refl
-late-emptied (e ∷ h) s l = rw (late-stored h s (omega arith), late-emptied h s (omega arith), and-false (empties_it (asks e.call) e.answer h s))
+late_emptied [] s l = refl
+late_emptied (e ∷ h) s l = rw (late_stored h s (omega arith), late_emptied h s (omega arith), and-false (empties_it (asks e.call) e.answer h s))
 
 -- ---- the lane of a start-split that was stored is that of its key
 
@@ -104,35 +104,35 @@ lane_or z (clears k) b = b
 lane_or z (resets y) b = b
 lane_or z empties b = b
 
-request-lane : (z y : Lane) (x : Kind) (v : ℕ) → false ≡ lane_or z (request_asks y x v) false
-request-lane z y kind.Unknown v = refl
-request-lane z y kind.SetConfiguration v = refl
-request-lane z y kind.GetConfiguration v = refl
-request-lane z y kind.GetHubDescriptor v = refl
-request-lane z y kind.GetHubStatus v = refl
-request-lane z y kind.GetPortStatus v = refl
-request-lane z y kind.ClearHubFeature v = refl
-request-lane z y kind.ClearPortFeature v = refl
-request-lane z y kind.SetPortFeature v = refl
-request-lane z y kind.ClearTTBuffer v = refl
-request-lane z y kind.ResetTT v = refl
+request_lane : (z y : Lane) (x : Kind) (v : ℕ) → false ≡ lane_or z (request_asks y x v) false
+request_lane z y kind.Unknown v = refl
+request_lane z y kind.SetConfiguration v = refl
+request_lane z y kind.GetConfiguration v = refl
+request_lane z y kind.GetHubDescriptor v = refl
+request_lane z y kind.GetHubStatus v = refl
+request_lane z y kind.GetPortStatus v = refl
+request_lane z y kind.ClearHubFeature v = refl
+request_lane z y kind.ClearPortFeature v = refl
+request_lane z y kind.SetPortFeature v = refl
+request_lane z y kind.ClearTTBuffer v = refl
+request_lane z y kind.ResetTT v = refl
 
-call-lane : (z : Lane) (c : Call) → is_from z (some c) ≡ lane_or z (asks c) false
+call_lane : (z : Lane) (c : Call) → is_from z (some c) ≡ lane_or z (asks c) false
 unfolding asks
-call-lane z (Control y s room) = request-lane z (lane_from y) (kind_of (setup_of s).requesttype (setup_of s).code) (setup_of s).value
-call-lane z (Poll y room) = refl
-call-lane z (Start y p t f g a e l) = refl
-call-lane z (Complete y a e d room) = refl
-call-lane z (Launch room) = refl
-call-lane z (Deliver r l) = refl
-call-lane z (Line e n) = refl
-call-lane z Tick = refl
-call-lane z BusReset = refl
+call_lane z (Control y s room) = request_lane z (lane_from y) (kind_of (setup_of s).requesttype (setup_of s).code) (setup_of s).value
+call_lane z (Poll y room) = refl
+call_lane z (Start y p t f g a e l) = refl
+call_lane z (Complete y a e d room) = refl
+call_lane z (Launch room) = refl
+call_lane z (Deliver r l) = refl
+call_lane z (Line e n) = refl
+call_lane z Tick = refl
+call_lane z BusReset = refl
 
-pub stored-lane : (h : History) (z : Lane) (k : Key) (s : ℕ) → last_stored h k ≡ some s → is_from z (call_at h s) ≡ same_lane k.lane z
+pub stored_lane : (h : History) (z : Lane) (k : Key) (s : ℕ) → last_stored h k ≡ some s → is_from z (call_at h s) ≡ same_lane k.lane z
 unfolding last_stored call_at stores
-stored-lane [] z k s l = let x : ◌≡◌ {A = ℕ} 0 1 = cc in absurd (omega (arith, x))
-stored-lane (e ∷ h) z k s l = go (asks e.call) refl l (stored-lane h z k s)
+stored_lane [] z k s l = let x : ◌≡◌ {A = ℕ} 0 1 = cc in absurd (omega (arith, x))
+stored_lane (e ∷ h) z k s l = go (asks e.call) refl l (stored_lane h z k s)
   where
     before : last_stored h k ≡ some s → (last_stored h k ≡ some s → is_from z (call_at h s) ≡ same_lane k.lane z)
         → is_from z (cond (eqb s (length h)) (some e.call) (call_at h s)) ≡ same_lane k.lane z
@@ -151,7 +151,7 @@ stored-lane (e ∷ h) z k s l = go (asks e.call) refl l (stored-lane h z k s)
             let two = (and-eq-true_iff (is_done e.answer && same_key k' k) (not (is_open h k))).0 p in
             let same = (and-eq-true_iff (is_done e.answer) (same_key k' k)).0 two.0 in
             rw (eq-eqb s (length h) (sym (some_inj l)))
-            (call-lane z e.call ∙ ap (λ (x : Asks). lane_or z x false) q ∙ ap (λ (x : Key). same_lane x.lane z) (same_true k' k same.1))
+            (call_lane z e.call ∙ ap (λ (x : Asks). lane_or z x false) q ∙ ap (λ (x : Key). same_lane x.lane z) (same_true k' k same.1))
     go (completes k') q l ih = before l ih
     go launches q l ih = before l ih
     go (delivers r y) q l ih = before l ih
@@ -161,14 +161,14 @@ stored-lane (e ∷ h) z k s l = go (asks e.call) refl l (stored-lane h z k s)
 
 -- ---- an open key has a start-split that waits
 
-still-waits : (st an em t u v : Bool) → Waiting st an em → u ≡ false → v ≡ false → Waiting (t || st) (u || an) ((v && (st && not an)) || em)
-still-waits st an em t u v w p q =
-    record { was-stored = rw w.was-stored (or-true t); not-answered = rw p w.not-answered; not-emptied = rw q w.not-emptied }
+still_waits : (st an em t u v : Bool) → Waiting st an em → u ≡ false → v ≡ false → Waiting (t || st) (u || an) ((v && (st && not an)) || em)
+still_waits st an em t u v w p q =
+    record { was_stored = rw w.was_stored (or-true t); not_answered = rw p w.not_answered; not_emptied = rw q w.not_emptied }
 
-pub open-waits : (h : History) (k : Key) (s : ℕ) → is_open h k ≡ true → last_stored h k ≡ some s → Waiting (is_stored_at h s) (is_answered_at h s) (is_emptied_at h s)
+pub open_waits : (h : History) (k : Key) (s : ℕ) → is_open h k ≡ true → last_stored h k ≡ some s → Waiting (is_stored_at h s) (is_answered_at h s) (is_emptied_at h s)
 unfolding is_open last_stored open_after stores is_stored_at is_answered_at is_emptied_at stores_it answers_it empties_it
-open-waits [] k s o l = absurd (false≢true o)
-open-waits (e ∷ h) k s o l = go (asks e.call) o l (open-waits h k s)
+open_waits [] k s o l = absurd (false≢true o)
+open_waits (e ∷ h) k s o l = go (asks e.call) o l (open_waits h k s)
   where
     -- a call that closes another key's start-split
     other : (d : Bool) (k' : Key) → (d && same_key k' k) ≡ false → last_stored h k ≡ some s → (d && is_at (last_stored h k') s) ≡ false
@@ -176,7 +176,7 @@ open-waits (e ∷ h) k s o l = go (asks e.call) o l (open-waits h k s)
     other true k' n q = by (is_at (last_stored h k') s) refl
       where
         by : (x : Bool) → is_at (last_stored h k') s ≡ x → x ≡ false
-        by true y = absurd (true≢false (sym (same-eq k' k (one_key h k' k s (is-at (last_stored h k') s y) q)) ∙ n))
+        by true y = absurd (true≢false (sym (same_eq k' k (one_key h k' k s (is_at_lem (last_stored h k') s y) q)) ∙ n))
         by false y = refl
 
     go : (x : Asks) → open_after x e.answer k (is_open h k) ≡ true → cond (stores x e.answer k (is_open h k)) (some (length h)) (last_stored h k) ≡ some s
@@ -190,7 +190,7 @@ open-waits (e ∷ h) k s o l = go (asks e.call) o l (open-waits h k s)
       where
         by : (w : Bool) → is_open h k ≡ w → (d : Bool) → (is_done e.answer && same_key k' k) ≡ d → (d || w) ≡ true → cond (d && not w) (some (length h)) (last_stored h k) ≡ some s
             → Waiting (((is_done e.answer && same_key k' k') && not (is_open h k')) && eqb s (length h) || is_stored_at h s) (is_answered_at h s) (is_emptied_at h s)
-        by true p d q y z = still-waits (is_stored_at h s) (is_answered_at h s) (is_emptied_at h s) (((is_done e.answer && same_key k' k') && not (is_open h k')) && eqb s (length h)) false false (ih p (old d z)) refl refl
+        by true p d q y z = still_waits (is_stored_at h s) (is_answered_at h s) (is_emptied_at h s) (((is_done e.answer && same_key k' k') && not (is_open h k')) && eqb s (length h)) false false (ih p (old d z)) refl refl
           where
             old : (d : Bool) → cond (d && false) (some (length h)) (last_stored h k) ≡ some s → last_stored h k ≡ some s
             old true z = z
@@ -201,29 +201,29 @@ open-waits (e ∷ h) k s o l = go (asks e.call) o l (open-waits h k s)
             let both = (and-eq-true_iff (is_done e.answer) (same_key k' k)).0 q in
             let shut : is_open h k' ≡ false = ap (is_open h) (same_true k' k both.1) ∙ p in
             record {
-              was-stored = rw (both.0, same_refl k', shut, eq-eqb s (length h) (sym here));
-              not-answered = late-answered h s (omega (arith, here));
-              not-emptied = late-emptied h s (omega (arith, here));
+              was_stored = rw (both.0, same_refl k', shut, eq-eqb s (length h) (sym here));
+              not_answered = late_answered h s (omega (arith, here));
+              not_emptied = late_emptied h s (omega (arith, here));
             }
     go (completes k') o l ih = by (gives_result e.answer && same_key k' k) refl o
       where
         by : (d : Bool) → (gives_result e.answer && same_key k' k) ≡ d → (not d && is_open h k) ≡ true
             → Waiting (is_stored_at h s) ((gives_result e.answer && is_at (last_stored h k') s) || is_answered_at h s) (is_emptied_at h s)
         by true q y = absurd (false≢true y)
-        by false q y = still-waits (is_stored_at h s) (is_answered_at h s) (is_emptied_at h s) false (gives_result e.answer && is_at (last_stored h k') s) false (ih y l) (other (gives_result e.answer) k' q l) refl
+        by false q y = still_waits (is_stored_at h s) (is_answered_at h s) (is_emptied_at h s) false (gives_result e.answer && is_at (last_stored h k') s) false (ih y l) (other (gives_result e.answer) k' q l) refl
     go (clears k') o l ih = by (is_done e.answer && same_key k' k) refl o
       where
         by : (d : Bool) → (is_done e.answer && same_key k' k) ≡ d → (not d && is_open h k) ≡ true
             → Waiting (is_stored_at h s) (is_answered_at h s) (((is_done e.answer && is_at (last_stored h k') s) && (is_stored_at h s && not (is_answered_at h s))) || is_emptied_at h s)
         by true q y = absurd (false≢true y)
-        by false q y = still-waits (is_stored_at h s) (is_answered_at h s) (is_emptied_at h s) false false (is_done e.answer && is_at (last_stored h k') s) (ih y l) refl (other (is_done e.answer) k' q l)
+        by false q y = still_waits (is_stored_at h s) (is_answered_at h s) (is_emptied_at h s) false false (is_done e.answer && is_at (last_stored h k') s) (ih y l) refl (other (is_done e.answer) k' q l)
     go (resets z) o l ih = by (is_done e.answer) (same_lane k.lane z) refl o
       where
         by : (d x : Bool) → same_lane k.lane z ≡ x → (not (d && x) && is_open h k) ≡ true
             → Waiting (is_stored_at h s) (is_answered_at h s) (((d && is_from z (call_at h s)) && (is_stored_at h s && not (is_answered_at h s))) || is_emptied_at h s)
         by true true q y = absurd (false≢true y)
         by true false q y =
-            still-waits (is_stored_at h s) (is_answered_at h s) (is_emptied_at h s) false false (is_from z (call_at h s)) (ih y l) refl (stored-lane h z k s l ∙ q)
+            still_waits (is_stored_at h s) (is_answered_at h s) (is_emptied_at h s) false false (is_from z (call_at h s)) (ih y l) refl (stored_lane h z k s l ∙ q)
         by false x q y = ih y l
     go empties o l ih = by (is_done e.answer) refl o
       where
@@ -241,7 +241,7 @@ pub record Opener (h : History) (s : ℕ) : Type 0 where
 
 pub opener : (h : History) (s : ℕ) → Waiting (is_stored_at h s) (is_answered_at h s) (is_emptied_at h s) → Opener h s
 unfolding is_open last_stored open_after stores is_stored_at is_answered_at is_emptied_at stores_it answers_it empties_it
-opener [] s w = absurd (false≢true w.was-stored)
+opener [] s w = absurd (false≢true w.was_stored)
 opener (e ∷ h) s w = go (asks e.call) refl w (opener h s)
   where
     stays : (x : Asks) → asks e.call ≡ x → (o : Opener h s) → open_after x e.answer o.key (is_open h o.key) ≡ true
@@ -254,7 +254,7 @@ opener (e ∷ h) s w = go (asks e.call) refl w (opener h s)
     kept true k' o n = by (same_key k' o.key) refl
       where
         by : (x : Bool) → same_key k' o.key ≡ x → (not x && is_open h o.key) ≡ true
-        by true y = absurd (true≢false (sym (at-is (last_stored h k') s (ap (last_stored h) (same_true k' o.key y) ∙ o.placed)) ∙ n))
+        by true y = absurd (true≢false (sym (at_is (last_stored h k') s (ap (last_stored h) (same_true k' o.key y) ∙ o.placed)) ∙ n))
         by false y = o.opened
 
     go : (x : Asks) → asks e.call ≡ x
@@ -271,39 +271,39 @@ opener (e ∷ h) s w = go (asks e.call) refl w (opener h s)
             let two = (and-eq-true_iff ((is_done e.answer && same_key k k) && not (is_open h k)) (eqb s (length h))).0 p in
             let done = (and-eq-true_iff (is_done e.answer && same_key k k) (not (is_open h k))).0 two.0 in
             record { key = k; placed = rw (q, two.0) (ap some (sym (eqb-true s (length h) two.1))); opened = rw (q, done.0) }
-        by false p = again (ih (record { was-stored = rw p at w.was-stored; not-answered = w.not-answered; not-emptied = w.not-emptied }))
+        by false p = again (ih (record { was_stored = rw p at w.was_stored; not_answered = w.not_answered; not_emptied = w.not_emptied }))
           where
             again : Opener h s → Opener (e ∷ h) s
             again o = stays (starts k) q o (rw o.opened (or-true (is_done e.answer && same_key k o.key))) (rw o.opened (and-false (is_done e.answer && same_key k o.key)))
-    go (completes k) q w ih = by (gives_result e.answer && is_at (last_stored h k) s) refl w.not-answered
+    go (completes k) q w ih = by (gives_result e.answer && is_at (last_stored h k) s) refl w.not_answered
       where
         by : (t : Bool) → (gives_result e.answer && is_at (last_stored h k) s) ≡ t → (t || is_answered_at h s) ≡ false → Opener (e ∷ h) s
         by true p n = absurd (true≢false n)
-        by false p n = again (ih (record { was-stored = w.was-stored; not-answered = n; not-emptied = w.not-emptied }))
+        by false p n = again (ih (record { was_stored = w.was_stored; not_answered = n; not_emptied = w.not_emptied }))
           where
             again : Opener h s → Opener (e ∷ h) s
             again o = stays (completes k) q o (kept (gives_result e.answer) k o p) refl
-    go (clears k) q w ih = by (is_done e.answer && is_at (last_stored h k) s) refl w.not-emptied
+    go (clears k) q w ih = by (is_done e.answer && is_at (last_stored h k) s) refl w.not_emptied
       where
         by : (t : Bool) → (is_done e.answer && is_at (last_stored h k) s) ≡ t → ((t && (is_stored_at h s && not (is_answered_at h s))) || is_emptied_at h s) ≡ false → Opener (e ∷ h) s
-        by true p n = absurd (true≢false (rw (w.was-stored, w.not-answered) at n))
-        by false p n = again (ih (record { was-stored = w.was-stored; not-answered = w.not-answered; not-emptied = n }))
+        by true p n = absurd (true≢false (rw (w.was_stored, w.not_answered) at n))
+        by false p n = again (ih (record { was_stored = w.was_stored; not_answered = w.not_answered; not_emptied = n }))
           where
             again : Opener h s → Opener (e ∷ h) s
             again o = stays (clears k) q o (kept (is_done e.answer) k o p) refl
-    go (resets z) q w ih = by (is_done e.answer && is_from z (call_at h s)) refl w.not-emptied
+    go (resets z) q w ih = by (is_done e.answer && is_from z (call_at h s)) refl w.not_emptied
       where
         by : (t : Bool) → (is_done e.answer && is_from z (call_at h s)) ≡ t → ((t && (is_stored_at h s && not (is_answered_at h s))) || is_emptied_at h s) ≡ false → Opener (e ∷ h) s
-        by true p n = absurd (true≢false (rw (w.was-stored, w.not-answered) at n))
-        by false p n = again (ih (record { was-stored = w.was-stored; not-answered = w.not-answered; not-emptied = n }))
+        by true p n = absurd (true≢false (rw (w.was_stored, w.not_answered) at n))
+        by false p n = again (ih (record { was_stored = w.was_stored; not_answered = w.not_answered; not_emptied = n }))
           where
             again : Opener h s → Opener (e ∷ h) s
-            again o = stays (resets z) q o (rw (sym (stored-lane h z o.key s o.placed), p) o.opened) refl
-    go empties q w ih = by (is_done e.answer) refl w.not-emptied
+            again o = stays (resets z) q o (rw (sym (stored_lane h z o.key s o.placed), p) o.opened) refl
+    go empties q w ih = by (is_done e.answer) refl w.not_emptied
       where
         by : (t : Bool) → is_done e.answer ≡ t → ((t && (is_stored_at h s && not (is_answered_at h s))) || is_emptied_at h s) ≡ false → Opener (e ∷ h) s
-        by true p n = absurd (true≢false (rw (w.was-stored, w.not-answered) at n))
-        by false p n = again (ih (record { was-stored = w.was-stored; not-answered = w.not-answered; not-emptied = n }))
+        by true p n = absurd (true≢false (rw (w.was_stored, w.not_answered) at n))
+        by false p n = again (ih (record { was_stored = w.was_stored; not_answered = w.not_answered; not_emptied = n }))
           where
             again : Opener h s → Opener (e ∷ h) s
             again o = stays empties q o (rw p o.opened) refl

@@ -46,7 +46,7 @@ use Rattle.translator.specs.CompleteSplit.{given, completed, complete_at, comple
 use Rattle.translator.specs.Launch.{launched, launch_at, launch_by, launch}
 use Rattle.translator.specs.Deliver.{undelivered, delivered, deliver_by, deliver}
 use Rattle.translator.specs.Clear.{clear_at, clear_buffer}
-use Rattle.translator.proofs.Finding.{FindSays, find-says}
+use Rattle.translator.proofs.Finding.{FindSays, find_says}
 use Rattle.runs.specs.Altered.{holds_key}
 use Rattle.runs.specs.Demand3.{Marks}
 
@@ -73,9 +73,9 @@ blank-take true n x = go n x
     go (suc n) [] = refl
     go (suc n) (y ∷ x) = ap {B = List ℕ} (λ r. 0 ∷ r) (go n x)
 
-pub blank-nil : (b : Bool) → blank b [] ≡ []
-blank-nil true = refl
-blank-nil false = refl
+pub blank_nil : (b : Bool) → blank b [] ≡ []
+blank_nil true = refl
+blank_nil false = refl
 
 abbrev pub blank_p : Bool → Payload → Payload
 blank_p b p = record { len = p.len; bytes = blank b p.bytes }
@@ -87,9 +87,9 @@ blank_none false = refl
 pub blank-content : (b : Bool) (p : Payload) → content (blank_p b p) ≡ blank b (content p)
 blank-content b p = blank-take b p.len p.bytes
 
-blank-payload : (b : Bool) (l : List ℕ) → payload_of (blank b l) ≡ blank_p b (payload_of l)
+blank_payload : (b : Bool) (l : List ℕ) → payload_of (blank b l) ≡ blank_p b (payload_of l)
 unfolding payload_of
-blank-payload b l = rw (blank-take b 64 l, length-blank b (take 64 l), blank-padded b (take 64 l))
+blank_payload b l = rw (blank-take b 64 l, length-blank b (take 64 l), blank-padded b (take 64 l))
 
 holds-key-reranked : (bs : List Buffer) (m : Marks) (s : Slot) → holds_key m (reranked bs s) ≡ holds_key m s
 holds-key-reranked bs m Empty = refl
@@ -112,65 +112,65 @@ module _ (m : Marks) where
 
   -- ---- the searches do not see the bytes
 
-  pub hide-at : (bs : List Buffer) (i : ℕ) → at (map hide_b bs) i ≡ hide_b (at bs i)
-  hide-at bs i = get_or-map hide_b bs i vacant
+  pub hide_at : (bs : List Buffer) (i : ℕ) → at (map hide_b bs) i ≡ hide_b (at bs i)
+  hide_at bs i = get_or-map hide_b bs i vacant
 
-  hide-set : (bs : List Buffer) (i : ℕ) (b : Buffer) → map hide_b (set bs i b) ≡ set (map hide_b bs) i (hide_b b)
-  hide-set [] i b = refl
-  hide-set (x ∷ bs) zero b = refl
-  hide-set (x ∷ bs) (suc i) b = ap {B = List Buffer} (λ r. hide_b x ∷ r) (hide-set bs i b)
+  hide_set : (bs : List Buffer) (i : ℕ) (b : Buffer) → map hide_b (set bs i b) ≡ set (map hide_b bs) i (hide_b b)
+  hide_set [] i b = refl
+  hide_set (x ∷ bs) zero b = refl
+  hide_set (x ∷ bs) (suc i) b = ap {B = List Buffer} (λ r. hide_b x ∷ r) (hide_set bs i b)
 
-  hide-take : (n : ℕ) (bs : List Buffer) → take n (map hide_b bs) ≡ map hide_b (take n bs)
-  hide-take zero bs = refl
-  hide-take (suc n) [] = refl
-  hide-take (suc n) (b ∷ bs) = ap {B = List Buffer} (λ r. hide_b b ∷ r) (hide-take n bs)
+  hide_take : (n : ℕ) (bs : List Buffer) → take n (map hide_b bs) ≡ map hide_b (take n bs)
+  hide_take zero bs = refl
+  hide_take (suc n) [] = refl
+  hide_take (suc n) (b ∷ bs) = ap {B = List Buffer} (λ r. hide_b b ∷ r) (hide_take n bs)
 
-  hide-tally : (f : Slot → Bool) (bs : List Buffer) → tally f (map hide_b bs) ≡ tally f bs
+  hide_tally : (f : Slot → Bool) (bs : List Buffer) → tally f (map hide_b bs) ≡ tally f bs
   unfolding tally
-  hide-tally f [] = refl
-  hide-tally f (b ∷ bs) = ap (λ (n : ℕ). bit (f b.slot) + n) (hide-tally f bs)
+  hide_tally f [] = refl
+  hide_tally f (b ∷ bs) = ap (λ (n : ℕ). bit (f b.slot) + n) (hide_tally f bs)
 
-  hide-find : (f : Slot → Bool) (bs : List Buffer) → find f (map hide_b bs) ≡ find f bs
+  hide_find : (f : Slot → Bool) (bs : List Buffer) → find f (map hide_b bs) ≡ find f bs
   unfolding find
-  hide-find f [] = refl
-  hide-find f (b ∷ bs) = ap (λ (x : Found). cond (f b.slot) (At (record { 0 = 0 })) (later x)) (hide-find f bs)
+  hide_find f [] = refl
+  hide_find f (b ∷ bs) = ap (λ (x : Found). cond (f b.slot) (At (record { 0 = 0 })) (later x)) (hide_find f bs)
 
-  hide-pass : {C : Type 0} (f : C → Slot → BufferNumber → C) (n : ℕ) (c : C) (bs : List Buffer) → pass f n c (map hide_b bs) ≡ pass f n c bs
+  hide_pass : {C : Type 0} (f : C → Slot → BufferNumber → C) (n : ℕ) (c : C) (bs : List Buffer) → pass f n c (map hide_b bs) ≡ pass f n c bs
   unfolding pass
-  hide-pass f n c [] = refl
-  hide-pass f n c (b ∷ bs) = hide-pass f (suc n) (f c b.slot (record { 0 = n })) bs
+  hide_pass f n c [] = refl
+  hide_pass f n c (b ∷ bs) = hide_pass f (suc n) (f c b.slot (record { 0 = n })) bs
 
-  hide-first : (n : ℕ) (f : Slot → Bool) (bs : List Buffer) → find f (take n (map hide_b bs)) ≡ find f (take n bs)
-  hide-first n f bs = rw (hide-take n bs) (hide-find f (take n bs))
+  hide_first : (n : ℕ) (f : Slot → Bool) (bs : List Buffer) → find f (take n (map hide_b bs)) ≡ find f (take n bs)
+  hide_first n f bs = rw (hide_take n bs) (hide_find f (take n bs))
 
-  hide-earliest : (n : ℕ) (bs : List Buffer) → earliest (take n (map hide_b bs)) ≡ earliest (take n bs)
+  hide_earliest : (n : ℕ) (bs : List Buffer) → earliest (take n (map hide_b bs)) ≡ earliest (take n bs)
   unfolding earliest
-  hide-earliest n bs = rw (hide-take n bs) (hide-pass sooner 0 NonePending (take n bs))
+  hide_earliest n bs = rw (hide_take n bs) (hide_pass sooner 0 NonePending (take n bs))
 
-  hide-chosen : (n : ℕ) (k : Key) (bs : List Buffer) → chosen k (take n (map hide_b bs)) ≡ chosen k (take n bs)
+  hide_chosen : (n : ℕ) (k : Key) (bs : List Buffer) → chosen k (take n (map hide_b bs)) ≡ chosen k (take n bs)
   unfolding chosen
-  hide-chosen n k bs = rw (hide-take n bs, hide-find (holds k) (take n bs)) (go (find (holds k) (take n bs)))
+  hide_chosen n k bs = rw (hide_take n bs, hide_find (holds k) (take n bs)) (go (find (holds k) (take n bs)))
     where
       go : (f : Found) → choose_held (map hide_b (take n bs)) f ≡ choose_held (take n bs) f
-      go Nowhere = rw (hide-find is_free (take n bs))
-      go (At i) = rw (hide-at (take n bs) i.0)
+      go Nowhere = rw (hide_find is_free (take n bs))
+      go (At i) = rw (hide_at (take n bs) i.0)
 
-  hide-permitted : (b n : ℕ) (k : Key) (bs : List Buffer) → permitted b k (take n (map hide_b bs)) ≡ permitted b k (take n bs)
+  hide_permitted : (b n : ℕ) (k : Key) (bs : List Buffer) → permitted b k (take n (map hide_b bs)) ≡ permitted b k (take n bs)
   unfolding permitted
-  hide-permitted b n k bs = rw (hide-chosen n k bs, hide-take n bs, hide-tally (active_in k.lane) (take n bs))
+  hide_permitted b n k bs = rw (hide_chosen n k bs, hide_take n bs, hide_tally (active_in k.lane) (take n bs))
 
-  hide-reranked : (bs : List Buffer) (s : Slot) → reranked (map hide_b bs) s ≡ reranked bs s
-  hide-reranked bs Empty = refl
-  hide-reranked bs (Pending s p) = rw (hide-tally (is_before p) bs)
-  hide-reranked bs (Ready s r) = refl
-  hide-reranked bs (Old s r) = refl
+  hide_reranked : (bs : List Buffer) (s : Slot) → reranked (map hide_b bs) s ≡ reranked bs s
+  hide_reranked bs Empty = refl
+  hide_reranked bs (Pending s p) = rw (hide_tally (is_before p) bs)
+  hide_reranked bs (Ready s r) = refl
+  hide_reranked bs (Old s r) = refl
 
-  hide-ranked : (bs : List Buffer) → ranked (map hide_b bs) ≡ map hide_b (ranked bs)
+  hide_ranked : (bs : List Buffer) → ranked (map hide_b bs) ≡ map hide_b (ranked bs)
   unfolding ranked
-  hide-ranked bs = go bs
+  hide_ranked bs = go bs
     where
       one : (b : Buffer) → ranked_in (map hide_b bs) (hide_b b) ≡ hide_b (ranked_in bs b)
-      one b = rw (hide-reranked bs b.slot, holds-key-reranked bs m b.slot)
+      one b = rw (hide_reranked bs b.slot, holds-key-reranked bs m b.slot)
 
       go : (cs : List Buffer) → map (ranked_in (map hide_b bs)) (map hide_b cs) ≡ map hide_b (map (ranked_in bs) cs)
       go [] = refl
@@ -184,23 +184,23 @@ module _ (m : Marks) where
   abbrev pub hide_delivered : Delivered → Delivered
   hide_delivered o = record { next = hide_t o.next; answer = o.answer }
 
-  hide-stored : (t : Translator) (n : BufferNumber) (s : StartSplit) (l : List ℕ) → stored (hide_t t) n s (blank (m (key.key_of s)) l) ≡ hide_t (stored t n s l)
+  hide_stored : (t : Translator) (n : BufferNumber) (s : StartSplit) (l : List ℕ) → stored (hide_t t) n s (blank (m (key.key_of s)) l) ≡ hide_t (stored t n s l)
   unfolding stored
-  hide-stored t n s l =
-      rw (hide-ranked t.buffers, hide-tally is_pending t.buffers, blank-payload (m (key.key_of s)) l, hide-set (ranked t.buffers) n.0 (record { slot = Pending s (waiting t.buffers); payload = payload_of l }))
+  hide_stored t n s l =
+      rw (hide_ranked t.buffers, hide_tally is_pending t.buffers, blank_payload (m (key.key_of s)) l, hide_set (ranked t.buffers) n.0 (record { slot = Pending s (waiting t.buffers); payload = payload_of l }))
 
-  pub hide-start : (t : Translator) (s : StartSplit) (l : List ℕ) → start_split (hide_t t) s (blank (m (key.key_of s)) l) ≡ hide_started (start_split t s l)
+  pub hide_start : (t : Translator) (s : StartSplit) (l : List ℕ) → start_split (hide_t t) s (blank (m (key.key_of s)) l) ≡ hide_started (start_split t s l)
   unfolding start_split
-  hide-start t s l =
-      rw (length-blank (m (key.key_of s)) l, hide-permitted t.count t.count (key.key_of s) t.buffers)
+  hide_start t s l =
+      rw (length-blank (m (key.key_of s)) l, hide_permitted t.count t.count (key.key_of s) t.buffers)
       (go (start_fits s (length l)) (permitted t.count (key.key_of s) (take t.count t.buffers)))
     where
       by : (c : Choice) → start_by (hide_t t) s (blank (m (key.key_of s)) l) c ≡ hide_started (start_by t s l c)
       by NoRoom = refl
       by LimitReached = refl
       by (Held n) = refl
-      by (Reused n) = rw (hide-stored t n s l)
-      by (Took n) = rw (hide-stored t n s l)
+      by (Reused n) = rw (hide_stored t n s l)
+      by (Took n) = rw (hide_stored t n s l)
 
       go : (x : Bool) (c : Choice) → cond x (start_by (hide_t t) s (blank (m (key.key_of s)) l) c) (record { next = hide_t t; answer = start.Outside })
           ≡ hide_started (cond x (start_by t s l c) (record { next = t; answer = start.Outside }))
@@ -217,20 +217,20 @@ module _ (m : Marks) where
   under k (Ready s r) e = ap m (same_true (key.key_of s) k e)
   under k (Old s r) e = ap m (same_true (key.key_of s) k e)
 
-  hide-given : (b : Bool) (r : DeviceResult) (p : Payload) → given r (blank_p b p) ≡ blank_p b (given r p)
-  hide-given b r p = go (is_data r)
+  hide_given : (b : Bool) (r : DeviceResult) (p : Payload) → given r (blank_p b p) ≡ blank_p b (given r p)
+  hide_given b r p = go (is_data r)
     where
       go : (x : Bool) → cond x (blank_p b p) no_payload ≡ blank_p b (cond x p no_payload)
       go true = refl
       go false = sym (blank_none b)
 
-  pub hide-complete : (t : Translator) (k : Key) → complete_split (hide_t t) k ≡ hide_completed (m k) (complete_split t k)
+  pub hide_complete : (t : Translator) (k : Key) → complete_split (hide_t t) k ≡ hide_completed (m k) (complete_split t k)
   unfolding complete_split
-  hide-complete t k = rw (hide-first t.count (holds k) t.buffers) (go (find (holds k) (take t.count t.buffers)) (find-says (holds k) t.count t.buffers))
+  hide_complete t k = rw (hide_first t.count (holds k) t.buffers) (go (find (holds k) (take t.count t.buffers)) (find_says (holds k) t.count t.buffers))
     where
       go : (f : Found) → FindSays (holds k) t.count t.buffers f → complete_at (hide_t t) f ≡ hide_completed (m k) (complete_at t f)
       go Nowhere r = rw (blank_none (m k))
-      go (At n) r = rw (hide-at t.buffers n.0, under k (at t.buffers n.0).slot r.passes) (slot (at t.buffers n.0).slot refl)
+      go (At n) r = rw (hide_at t.buffers n.0, under k (at t.buffers n.0).slot r.passes) (slot (at t.buffers n.0).slot refl)
         where
           p : Payload
           p = (at t.buffers n.0).payload
@@ -239,8 +239,8 @@ module _ (m : Marks) where
           slot Empty e = rw (blank_none (m k))
           slot (Pending s q) e = rw (blank_none (m k))
           slot (Ready s x) e =
-              rw (hide-set t.buffers n.0 (record { slot = Old s x; payload = p }), hide-given (m k) x p, sym (sym (under k (at t.buffers n.0).slot r.passes) ∙ ap (holds_key m) e))
-          slot (Old s x) e = rw (hide-given (m k) x p)
+              rw (hide_set t.buffers n.0 (record { slot = Old s x; payload = p }), hide_given (m k) x p, sym (sym (under k (at t.buffers n.0).slot r.passes) ∙ ap (holds_key m) e))
+          slot (Old s x) e = rw (hide_given (m k) x p)
 
   -- whether what is launched is marked
   abbrev pub marked : LaunchAnswer → Bool
@@ -251,9 +251,9 @@ module _ (m : Marks) where
   abbrev pub hide_launched : Launched → Launched
   hide_launched o = record { next = hide_t o.next; answer = o.answer; payload = blank_p (marked o.answer) o.payload }
 
-  pub hide-launch : (t : Translator) → launch (hide_t t) ≡ hide_launched (launch t)
+  pub hide_launch : (t : Translator) → launch (hide_t t) ≡ hide_launched (launch t)
   unfolding launch
-  hide-launch t = go t.low
+  hide_launch t = go t.low
     where
       slot : (n : BufferNumber) (s : Slot) → (at t.buffers n.0).slot ≡ s → launched (hide_t t) n (blank_p (holds_key m s) (at t.buffers n.0).payload) s ≡ hide_launched (launched t n (at t.buffers n.0).payload s)
       slot n Empty e = refl
@@ -263,16 +263,16 @@ module _ (m : Marks) where
 
       found : (e : Earliest) → launch_at (hide_t t) e ≡ hide_launched (launch_at t e)
       found NonePending = refl
-      found (Stored n p) = rw (hide-at t.buffers n.0) (slot n (at t.buffers n.0).slot refl)
+      found (Stored n p) = rw (hide_at t.buffers n.0) (slot n (at t.buffers n.0).slot refl)
 
       go : (l : LowSide) → launch_by (hide_t t) l ≡ hide_launched (launch_by t l)
-      go Idle = rw (hide-earliest t.count t.buffers) (found (earliest (take t.count t.buffers)))
+      go Idle = rw (hide_earliest t.count t.buffers) (found (earliest (take t.count t.buffers)))
       go (Running n) = refl
       go Abandoned = refl
 
-  pub hide-deliver : (t : Translator) (r : DeviceResult) (l : List ℕ) → deliver (hide_t t) r (blank (shown t.buffers t.low) l) ≡ hide_delivered (deliver t r l)
+  pub hide_deliver : (t : Translator) (r : DeviceResult) (l : List ℕ) → deliver (hide_t t) r (blank (shown t.buffers t.low) l) ≡ hide_delivered (deliver t r l)
   unfolding deliver
-  hide-deliver t r l = rw (length-blank (shown t.buffers t.low) l) (go (result_length r (length l)) t.low)
+  hide_deliver t r l = rw (length-blank (shown t.buffers t.low) l) (go (result_length r (length l)) t.low)
     where
       slot : (n : BufferNumber) (s : Slot) → (at t.buffers n.0).slot ≡ s → delivered (hide_t t) r (blank (holds_key m s) l) n s ≡ hide_delivered (delivered t r l n s)
       slot n Empty e = refl
@@ -283,27 +283,27 @@ module _ (m : Marks) where
           by : (x : Bool)
               → cond x (record { next = record { buffers = set (map hide_b t.buffers) n.0 (record { slot = Ready s r; payload = payload_of (blank (m (key.key_of s)) l) }); count = t.count; low = Idle }; answer = answer.Done }) (undelivered (hide_t t) answer.NotInThisState)
               ≡ hide_delivered (cond x (record { next = record { buffers = set t.buffers n.0 (record { slot = Ready s r; payload = payload_of l }); count = t.count; low = Idle }; answer = answer.Done }) (undelivered t answer.NotInThisState))
-          by true = rw (blank-payload (m (key.key_of s)) l, hide-set t.buffers n.0 (record { slot = Ready s r; payload = payload_of l }))
+          by true = rw (blank_payload (m (key.key_of s)) l, hide_set t.buffers n.0 (record { slot = Ready s r; payload = payload_of l }))
           by false = refl
 
       go : (x : Bool) (low : LowSide) → cond x (deliver_by (hide_t t) r (blank (shown t.buffers low) l) low) (undelivered (hide_t t) answer.Outside)
           ≡ hide_delivered (cond x (deliver_by t r l low) (undelivered t answer.Outside))
       go true Idle = refl
-      go true (Running n) = rw (hide-at t.buffers n.0) (slot n (at t.buffers n.0).slot refl)
+      go true (Running n) = rw (hide_at t.buffers n.0) (slot n (at t.buffers n.0).slot refl)
       go true Abandoned = refl
       go false low = refl
 
-  pub hide-clear : (t : Translator) (k : Key) → clear_buffer (hide_t t) k ≡ hide_t (clear_buffer t k)
+  pub hide_clear : (t : Translator) (k : Key) → clear_buffer (hide_t t) k ≡ hide_t (clear_buffer t k)
   unfolding clear_buffer
-  hide-clear t k = rw (hide-first t.count (holds k) t.buffers) (go (find (holds k) (take t.count t.buffers)))
+  hide_clear t k = rw (hide_first t.count (holds k) t.buffers) (go (find (holds k) (take t.count t.buffers)))
     where
       go : (f : Found) → clear_at (hide_t t) f ≡ hide_t (clear_at t f)
       go Nowhere = refl
-      go (At n) = rw (hide-set t.buffers n.0 vacant)
+      go (At n) = rw (hide_set t.buffers n.0 vacant)
 
-  pub hide-reset : (t : Translator) (z : Lane) → reset_lane (hide_t t) z ≡ hide_t (reset_lane t z)
+  pub hide_reset : (t : Translator) (z : Lane) → reset_lane (hide_t t) z ≡ hide_t (reset_lane t z)
   unfolding reset_lane
-  hide-reset t z = rw (all t.buffers, low t.low)
+  hide_reset t z = rw (all t.buffers, low t.low)
     where
       one : (b : Buffer) → without_lane z (hide_b b) ≡ hide_b (without_lane z b)
       one b = go (in_lane z b.slot)
@@ -318,5 +318,5 @@ module _ (m : Marks) where
 
       low : (l : LowSide) → low_without_lane z (map hide_b t.buffers) l ≡ low_without_lane z t.buffers l
       low Idle = refl
-      low (Running n) = rw (hide-at t.buffers n.0)
+      low (Running n) = rw (hide_at t.buffers n.0)
       low Abandoned = refl

@@ -21,7 +21,7 @@ use Rattle.translator.specs.CompleteSplit.{complete_split}
 use Rattle.translator.specs.Launch.{launch}
 use Rattle.translator.specs.Clear.{clear_buffer}
 use Rattle.translator.specs.ResetLane.{reset_lane}
-use Rattle.numbers.proofs.Laws.{numbers-claims}
+use Rattle.numbers.proofs.Laws.{numbers_claims_lem}
 use Rattle.numbers.specs.Named.{lane_from, pid_from, result_from}
 use Rattle.numbers.specs.Split.{split_named, split_from, key_from}
 use Rattle.request.specs.declared.Kind.{Kind}
@@ -41,8 +41,8 @@ use Rattle.hub.specs.Step.{served, step}
 use Rattle.runs.specs.History.{Asks, nothing, starts, completes, launches, delivers, clears, resets, empties, key_of, request_asks, asks, answer_key}
 use Rattle.runs.specs.Altered.{with_bytes}
 use Rattle.runs.specs.Demand3.{Marks}
-use Rattle.runs.proofs.Steps.{start-key, complete-key}
-use Rattle.runs.proofs.Hiding.{blank, length-blank, blank-nil, blank_p, blank-content, hide_t, shown, marked, hide-start, hide-complete, hide-launch, hide-deliver, hide-clear, hide-reset}
+use Rattle.runs.proofs.Steps.{start_key, complete-key}
+use Rattle.runs.proofs.Hiding.{blank, length-blank, blank_nil, blank_p, blank-content, hide_t, shown, marked, hide_start, hide_complete, hide_launch, hide_deliver, hide_clear, hide_reset}
 
 module _ (m : Marks) where
   abbrev pub hide_h : Hub → Hub
@@ -77,43 +77,43 @@ module _ (m : Marks) where
   hide_o x o = record { next = hide_h o.next; answer = hide_a x o.answer }
 
   -- an answer without bytes
-  hide-plain : (x : Asks) (h : Hub) (n : ℕ) → plain (hide_h h) n ≡ hide_o x (plain h n)
-  hide-plain x h n = rw (blank-nil (excepted x (plain_answer n)))
+  hide_plain : (x : Asks) (h : Hub) (n : ℕ) → plain (hide_h h) n ≡ hide_o x (plain h n)
+  hide_plain x h n = rw (blank_nil (excepted x (plain_answer n)))
 
-  hide-gives : (x : Asks) (h : Hub) (l : List ℕ) → excepted x (pid_answer 1 0 l) ≡ false → gives (hide_h h) l ≡ hide_o x (gives h l)
-  hide-gives x h l e = rw e
+  hide_gives : (x : Asks) (h : Hub) (l : List ℕ) → excepted x (pid_answer 1 0 l) ≡ false → gives (hide_h h) l ≡ hide_o x (gives h l)
+  hide_gives x h l e = rw e
 
   -- a request never gives payload bytes
-  request-shown : (y : Lane) (k : Kind) (v : ℕ) (a : Answer) → excepted (request_asks y k v) a ≡ false
-  request-shown y kind.Unknown v a = refl
-  request-shown y kind.SetConfiguration v a = refl
-  request-shown y kind.GetConfiguration v a = refl
-  request-shown y kind.GetHubDescriptor v a = refl
-  request-shown y kind.GetHubStatus v a = refl
-  request-shown y kind.GetPortStatus v a = refl
-  request-shown y kind.ClearHubFeature v a = refl
-  request-shown y kind.ClearPortFeature v a = refl
-  request-shown y kind.SetPortFeature v a = refl
-  request-shown y kind.ClearTTBuffer v a = refl
-  request-shown y kind.ResetTT v a = refl
+  request_shown : (y : Lane) (k : Kind) (v : ℕ) (a : Answer) → excepted (request_asks y k v) a ≡ false
+  request_shown y kind.Unknown v a = refl
+  request_shown y kind.SetConfiguration v a = refl
+  request_shown y kind.GetConfiguration v a = refl
+  request_shown y kind.GetHubDescriptor v a = refl
+  request_shown y kind.GetHubStatus v a = refl
+  request_shown y kind.GetPortStatus v a = refl
+  request_shown y kind.ClearHubFeature v a = refl
+  request_shown y kind.ClearPortFeature v a = refl
+  request_shown y kind.SetPortFeature v a = refl
+  request_shown y kind.ClearTTBuffer v a = refl
+  request_shown y kind.ResetTT v a = refl
 
-  hide-request : (x : Asks) (h : Hub) (y : Lane) (r : Request) → ((a : Answer) → excepted x a ≡ false) → by_request (hide_h h) y r ≡ hide_o x (by_request h y r)
+  hide_request : (x : Asks) (h : Hub) (y : Lane) (r : Request) → ((a : Answer) → excepted x a ≡ false) → by_request (hide_h h) y r ≡ hide_o x (by_request h y r)
   unfolding configured_as
-  hide-request x h y (Wrong f) n = hide-plain x h 2
-  hide-request x h y (SetConfiguration on) n = hide-plain x (configured_as on h) 0
-  hide-request x h y GetConfiguration n = hide-gives x h _ (n _)
-  hide-request x h y (GetHubDescriptor l) n = hide-gives x h _ (n _)
-  hide-request x h y GetHubStatus n = hide-gives x h _ (n _)
-  hide-request x h y (GetPortStatus p) n = hide-gives x h _ (n _)
-  hide-request x h y ClearHubFeature n = hide-plain x h 0
-  hide-request x h y (ClearPortFeature p f) n = hide-plain x (clear_feature h p f) 0
-  hide-request x h y (SetPortFeature p f) n = hide-plain x (set_feature h p f) 0
-  hide-request x h y (ClearTTBuffer k) n = rw (hide-clear m h.translator (keyed y k)) (hide-plain x (with_translator h (clear_buffer h.translator (keyed y k))) 0)
-  hide-request x h y ResetTT n = rw (hide-reset m h.translator y) (hide-plain x (with_translator h (reset_lane h.translator y)) 0)
+  hide_request x h y (Wrong f) n = hide_plain x h 2
+  hide_request x h y (SetConfiguration on) n = hide_plain x (configured_as on h) 0
+  hide_request x h y GetConfiguration n = hide_gives x h _ (n _)
+  hide_request x h y (GetHubDescriptor l) n = hide_gives x h _ (n _)
+  hide_request x h y GetHubStatus n = hide_gives x h _ (n _)
+  hide_request x h y (GetPortStatus p) n = hide_gives x h _ (n _)
+  hide_request x h y ClearHubFeature n = hide_plain x h 0
+  hide_request x h y (ClearPortFeature p f) n = hide_plain x (clear_feature h p f) 0
+  hide_request x h y (SetPortFeature p f) n = hide_plain x (set_feature h p f) 0
+  hide_request x h y (ClearTTBuffer k) n = rw (hide_clear m h.translator (keyed y k)) (hide_plain x (with_translator h (clear_buffer h.translator (keyed y k))) 0)
+  hide_request x h y ResetTT n = rw (hide_reset m h.translator y) (hide_plain x (with_translator h (reset_lane h.translator y)) 0)
 
-  hide-control : (h : Hub) (z : ℕ) (s : List ℕ) (room : ℕ) → requested (hide_h h) (lane_from z) (request_of h.identity.ports s) ≡ hide_o (asks (Control z s room)) (requested h (lane_from z) (request_of h.identity.ports s))
+  hide_control : (h : Hub) (z : ℕ) (s : List ℕ) (room : ℕ) → requested (hide_h h) (lane_from z) (request_of h.identity.ports s) ≡ hide_o (asks (Control z s room)) (requested h (lane_from z) (request_of h.identity.ports s))
   unfolding requested asks
-  hide-control h z s room = go (h.configured || served_always r)
+  hide_control h z s room = go (h.configured || served_always r)
     where
       r : Request
       r = request_of h.identity.ports s
@@ -122,114 +122,114 @@ module _ (m : Marks) where
       x = request_asks (lane_from z) (kind_of (setup_of s).requesttype (setup_of s).code) (setup_of s).value
 
       go : (b : Bool) → cond b (by_request (hide_h h) (lane_from z) r) (refuse 2 (hide_h h)) ≡ hide_o x (cond b (by_request h (lane_from z) r) (refuse 2 h))
-      go true = hide-request x h (lane_from z) r (request-shown (lane_from z) (kind_of (setup_of s).requesttype (setup_of s).code) (setup_of s).value)
-      go false = hide-plain x h 2
+      go true = hide_request x h (lane_from z) r (request_shown (lane_from z) (kind_of (setup_of s).requesttype (setup_of s).code) (setup_of s).value)
+      go false = hide_plain x h 2
 
-  hide-poll : (h : Hub) (z room : ℕ) → polled (hide_h h) ≡ hide_o (asks (Poll z room)) (polled h)
+  hide_poll : (h : Hub) (z room : ℕ) → polled (hide_h h) ≡ hide_o (asks (Poll z room)) (polled h)
   unfolding polled asks
-  hide-poll h z room = go (eqb (bitmap_of h.identity.ports h.ports) 0)
+  hide_poll h z room = go (eqb (bitmap_of h.identity.ports h.ports) 0)
     where
       go : (b : Bool) → cond b (refuse 3 (hide_h h)) (gives (hide_h h) (bitmap_of h.identity.ports h.ports ∷ []))
           ≡ hide_o nothing (cond b (refuse 3 h) (gives h (bitmap_of h.identity.ports h.ports ∷ [])))
       go true = refl
       go false = refl
 
-  hide-tick : (h : Hub) → done (ticked_hub (hide_h h)) ≡ hide_o (asks Tick) (done (ticked_hub h))
+  hide_tick : (h : Hub) → done (ticked_hub (hide_h h)) ≡ hide_o (asks Tick) (done (ticked_hub h))
   unfolding ticked_hub asks
-  hide-tick h = go h.configured
+  hide_tick h = go h.configured
     where
       go : (b : Bool) → done (cond b (with_ports (hide_h h) (swept Tick' h.identity.ports h.ports)) (hide_h h)) ≡ hide_o nothing (done (cond b (with_ports h (swept Tick' h.identity.ports h.ports)) h))
       go true = refl
       go false = refl
 
-  hide-completed : (k : Key) (h : Hub) (a : CompleteAnswer) (p : Payload) → completed_by (hide_h h) a (blank_p (m k) p) ≡ hide_o (completes k) (completed_by h a p)
-  hide-completed k h NoMatch p = hide-plain (completes k) h 2
-  hide-completed k h NotYet p = hide-plain (completes k) h 4
-  hide-completed k h (Gives r) p = rw (blank-content (m k) p)
+  hide_completed_lem : (k : Key) (h : Hub) (a : CompleteAnswer) (p : Payload) → completed_by (hide_h h) a (blank_p (m k) p) ≡ hide_o (completes k) (completed_by h a p)
+  hide_completed_lem k h NoMatch p = hide_plain (completes k) h 2
+  hide_completed_lem k h NotYet p = hide_plain (completes k) h 4
+  hide_completed_lem k h (Gives r) p = rw (blank-content (m k) p)
 
-  hide-launched : (h : Hub) (a : LaunchAnswer) (p : Payload) → launched_by (hide_h h) a (blank_p (marked m a) p) ≡ hide_o launches (launched_by h a p)
-  hide-launched h NothingPending p = hide-plain launches h 3
-  hide-launched h Occupied p = hide-plain launches h 8
-  hide-launched h (Launches s) p = rw (numbers-claims.lanes.value-back s.lane, numbers-claims.directions.value-back (key.direction_of s.pid), blank-content (m (key.key_of s)) p)
+  hide_launched_lem : (h : Hub) (a : LaunchAnswer) (p : Payload) → launched_by (hide_h h) a (blank_p (marked m a) p) ≡ hide_o launches (launched_by h a p)
+  hide_launched_lem h NothingPending p = hide_plain launches h 3
+  hide_launched_lem h Occupied p = hide_plain launches h 8
+  hide_launched_lem h (Launches s) p = rw (numbers_claims_lem.lanes.value_back s.lane, numbers_claims_lem.directions.value_back (key.direction_of s.pid), blank-content (m (key.key_of s)) p)
 
   -- ---- one call
 
-  hide-within : (h : Hub) (c : Call) → within (hide_h h) (hide_c h c) ≡ within h c
+  hide_within : (h : Hub) (c : Call) → within (hide_h h) (hide_c h c) ≡ within h c
   unfolding within
-  hide-within h (Control z s room) = refl
-  hide-within h (Poll z room) = refl
-  hide-within h (Start z p t f g a e l) = rw (length-blank (m (key_of (lane_from z) a e (key.direction_of (pid_from p)))) l)
-  hide-within h (Complete z a e d room) = refl
-  hide-within h (Launch room) = refl
-  hide-within h (Deliver r l) = rw (length-blank (shown m h.translator.buffers h.translator.low) l)
-  hide-within h (Line e n) = refl
-  hide-within h Tick = refl
-  hide-within h BusReset = refl
+  hide_within h (Control z s room) = refl
+  hide_within h (Poll z room) = refl
+  hide_within h (Start z p t f g a e l) = rw (length-blank (m (key_of (lane_from z) a e (key.direction_of (pid_from p)))) l)
+  hide_within h (Complete z a e d room) = refl
+  hide_within h (Launch room) = refl
+  hide_within h (Deliver r l) = rw (length-blank (shown m h.translator.buffers h.translator.low) l)
+  hide_within h (Line e n) = refl
+  hide_within h Tick = refl
+  hide_within h BusReset = refl
 
-  hide-space : (h : Hub) (c : Call) → has_space (hide_c h c) ≡ has_space c
+  hide_space : (h : Hub) (c : Call) → has_space (hide_c h c) ≡ has_space c
   unfolding has_space
-  hide-space h (Control z s room) = refl
-  hide-space h (Poll z room) = refl
-  hide-space h (Start z p t f g a e l) = refl
-  hide-space h (Complete z a e d room) = refl
-  hide-space h (Launch room) = refl
-  hide-space h (Deliver r l) = refl
-  hide-space h (Line e n) = refl
-  hide-space h Tick = refl
-  hide-space h BusReset = refl
+  hide_space h (Control z s room) = refl
+  hide_space h (Poll z room) = refl
+  hide_space h (Start z p t f g a e l) = refl
+  hide_space h (Complete z a e d room) = refl
+  hide_space h (Launch room) = refl
+  hide_space h (Deliver r l) = refl
+  hide_space h (Line e n) = refl
+  hide_space h Tick = refl
+  hide_space h BusReset = refl
 
-  hide-silent : (h : Hub) (c : Call) → not_silent (hide_h h) (hide_c h c) ≡ not_silent h c
+  hide_silent : (h : Hub) (c : Call) → not_silent (hide_h h) (hide_c h c) ≡ not_silent h c
   unfolding not_silent
-  hide-silent h (Control z s room) = refl
-  hide-silent h (Poll z room) = refl
-  hide-silent h (Start z p t f g a e l) = refl
-  hide-silent h (Complete z a e d room) = refl
-  hide-silent h (Launch room) = refl
-  hide-silent h (Deliver r l) = refl
-  hide-silent h (Line e n) = refl
-  hide-silent h Tick = refl
-  hide-silent h BusReset = refl
+  hide_silent h (Control z s room) = refl
+  hide_silent h (Poll z room) = refl
+  hide_silent h (Start z p t f g a e l) = refl
+  hide_silent h (Complete z a e d room) = refl
+  hide_silent h (Launch room) = refl
+  hide_silent h (Deliver r l) = refl
+  hide_silent h (Line e n) = refl
+  hide_silent h Tick = refl
+  hide_silent h BusReset = refl
 
-  hide-fitting : (h : Hub) (c : Call) → fitting (hide_h h) (hide_c h c) ≡ fitting h c
+  hide_fitting : (h : Hub) (c : Call) → fitting (hide_h h) (hide_c h c) ≡ fitting h c
   unfolding fitting
-  hide-fitting h (Control z s room) = refl
-  hide-fitting h (Poll z room) = refl
-  hide-fitting h (Start z p t f g a e l) = refl
-  hide-fitting h (Complete z a e d room) = refl
-  hide-fitting h (Launch room) = rw (hide-launch m h.translator)
-  hide-fitting h (Deliver r l) = rw (hide-deliver m h.translator (result_from r) l)
-  hide-fitting h (Line e n) = refl
-  hide-fitting h Tick = refl
-  hide-fitting h BusReset = refl
+  hide_fitting h (Control z s room) = refl
+  hide_fitting h (Poll z room) = refl
+  hide_fitting h (Start z p t f g a e l) = refl
+  hide_fitting h (Complete z a e d room) = refl
+  hide_fitting h (Launch room) = rw (hide_launch m h.translator)
+  hide_fitting h (Deliver r l) = rw (hide_deliver m h.translator (result_from r) l)
+  hide_fitting h (Line e n) = refl
+  hide_fitting h Tick = refl
+  hide_fitting h BusReset = refl
 
-  hide-served : (h : Hub) (c : Call) → within h c ≡ true → served (hide_h h) (hide_c h c) ≡ hide_o (asks c) (served h c)
+  hide_served : (h : Hub) (c : Call) → within h c ≡ true → served (hide_h h) (hide_c h c) ≡ hide_o (asks c) (served h c)
   unfolding served within asks reset_hub
-  hide-served h (Control z s room) w = hide-control h z s room
-  hide-served h (Poll z room) w = hide-poll h z room
-  hide-served h (Start z p t f g a e l) w =
+  hide_served h (Control z s room) w = hide_control h z s room
+  hide_served h (Poll z room) w = hide_poll h z room
+  hide_served h (Start z p t f g a e l) w =
       let named = (and-eq-true_iff (split_named z p t f g a e) (start_fits (split_from z p t f g a e) (length l))).0 w in
-      let same = ap m (start-key z p t f g a e named.0) in
-      rw (same, hide-start m h.translator (split_from z p t f g a e) l)
-  hide-served h (Complete z a e d room) w =
+      let same = ap m (start_key z p t f g a e named.0) in
+      rw (same, hide_start m h.translator (split_from z p t f g a e) l)
+  hide_served h (Complete z a e d room) w =
       let o = complete_split h.translator (key_from z a e d) in
-      rw (hide-complete m h.translator (key_from z a e d), complete-key z a e d w) (hide-completed (key_from z a e d) (with_translator h o.next) o.answer o.payload)
-  hide-served h (Launch room) w =
+      rw (hide_complete m h.translator (key_from z a e d), complete-key z a e d w) (hide_completed_lem (key_from z a e d) (with_translator h o.next) o.answer o.payload)
+  hide_served h (Launch room) w =
       let o = launch h.translator in
-      rw (hide-launch m h.translator) (hide-launched (with_translator h o.next) o.answer o.payload)
-  hide-served h (Deliver r l) w = rw (hide-deliver m h.translator (result_from r) l)
-  hide-served h (Line e n) w = refl
-  hide-served h Tick w = hide-tick h
-  hide-served h BusReset w = refl
+      rw (hide_launch m h.translator) (hide_launched_lem (with_translator h o.next) o.answer o.payload)
+  hide_served h (Deliver r l) w = rw (hide_deliver m h.translator (result_from r) l)
+  hide_served h (Line e n) w = refl
+  hide_served h Tick w = hide_tick h
+  hide_served h BusReset w = refl
 
-  pub step-hide : (h : Hub) (c : Call) → step (hide_h h) (hide_c h c) ≡ hide_o (asks c) (step h c)
+  pub step_hide : (h : Hub) (c : Call) → step (hide_h h) (hide_c h c) ≡ hide_o (asks c) (step h c)
   unfolding step
-  step-hide h c = rw (hide-within h c, hide-space h c, hide-silent h c, hide-fitting h c) (go (within h c) refl (has_space c) (not_silent h c) (fitting h c))
+  step_hide h c = rw (hide_within h c, hide_space h c, hide_silent h c, hide_fitting h c) (go (within h c) refl (has_space c) (not_silent h c) (fitting h c))
     where
       go : (w : Bool) → within h c ≡ w → (r s f : Bool)
           → cond (eqb (first_refusal w r s f) 0) (served (hide_h h) (hide_c h c)) (refuse (first_refusal w r s f) (hide_h h))
           ≡ hide_o (asks c) (cond (eqb (first_refusal w r s f) 0) (served h c) (refuse (first_refusal w r s f) h))
-      go false e r s f = hide-plain (asks c) h 6
-      go true e false s f = hide-plain (asks c) h 7
-      go true e true false f = hide-plain (asks c) h 5
-      go true e true true false = hide-plain (asks c) h 8
-      go true e true true true = hide-served h c e
+      go false e r s f = hide_plain (asks c) h 6
+      go true e false s f = hide_plain (asks c) h 7
+      go true e true false f = hide_plain (asks c) h 5
+      go true e true true false = hide_plain (asks c) h 8
+      go true e true true true = hide_served h c e

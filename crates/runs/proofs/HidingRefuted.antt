@@ -40,43 +40,43 @@ use Rattle.runs.specs.Demand3.{Marks, only_key, same, start, deliver, SameCalls,
 use Rattle.runs.specs.Altered as of
 use Rattle.runs.specs.Altered.{altered, Field, field_of}
 use Rattle.runs.specs.HidingMistakes.{showing, given_to, is_other, size_shows, wrong_payload, Memory, memory_shows, other_pid, second_result, Puts, HidingMistakesShutOut}
-use Rattle.runs.proofs.Refuted.{bench, configure, in-to, complete}
+use Rattle.runs.proofs.Refuted.{bench, configure, in_to, complete}
 
 -- OUT to endpoint 1 of device 5, and its key
-abbrev out-5 : List ℕ → Call
-out-5 l = Start 0 1 2 0 0 5 1 l
+abbrev out_5 : List ℕ → Call
+out_5 l = Start 0 1 2 0 0 5 1 l
 
-abbrev key-out : Key
-key-out = key_of Zero 5 1 direction.Out
+abbrev key_out : Key
+key_out = key_of Zero 5 1 direction.Out
 
 abbrev key_in : Key
 key_in = key_of Zero 5 1 direction.In
 
-same-field : (f : Field) {m : Marks} {c : Call} {a b : Answer} → SameAnswer m c a b → field_of f a ≡ field_of f b
-same-field of.number s = s.number
-same-field of.pid s = s.pid
-same-field of.transfer s = s.transfer
-same-field of.lane s = s.lane
-same-field of.address s = s.address
-same-field of.endpoint s = s.endpoint
-same-field of.direction s = s.direction
-same-field of.lowspeed s = s.lowspeed
-same-field of.toggle s = s.toggle
+same_field : (f : Field) {m : Marks} {c : Call} {a b : Answer} → SameAnswer m c a b → field_of f a ≡ field_of f b
+same_field of.number s = s.number
+same_field of.pid s = s.pid
+same_field of.transfer s = s.transfer
+same_field of.lane s = s.lane
+same_field of.address s = s.address
+same_field of.endpoint s = s.endpoint
+same_field of.direction s = s.direction
+same_field of.lowspeed s = s.lowspeed
+same_field of.toggle s = s.toggle
 
 -- the payload of a start-split shows in the next answer
 shown : (f : Field) (put : ℕ → Answer → Answer) → Puts f put → ¬ (MarkHidden (showing put))
 unfolding bench new_fits run_from SameCalls SameAnswers padded payload_of same_key numbers_fit start_fits result_length front swept find chosen permitted pass tally ranked earliest stored start_split complete_split launching.launch delivering.deliver split_named split_from key_named key_from kind_of asked request_of configured_as requested within has_space not_silent fitting served step asks open_after is_open stores last_stored for_after last_for delivered_for
 shown f put is claim =
-    let calls : List ℕ → List Call = λ x. configure ∷ out-5 x ∷ Tick ∷ [] in
+    let calls : List ℕ → List Call = λ x. configure ∷ out_5 x ∷ Tick ∷ [] in
     let answers =
-    claim key-out bench bench (calls (1 ∷ [])) (calls (2 ∷ [])) refl (same _, (start 0 1 2 0 0 5 1 (1 ∷ []) (2 ∷ []) refl refl, (same _, tt))) in
-    let z : ◌≡◌ {A = ℕ} 1 2 = sym (is 1 (plain_answer 0)) ∙ (same-field f answers.1.1.0 ∙ is 2 (plain_answer 0)) in
+    claim key_out bench bench (calls (1 ∷ [])) (calls (2 ∷ [])) refl (same _, (start 0 1 2 0 0 5 1 (1 ∷ []) (2 ∷ []) refl refl, (same _, tt))) in
+    let z : ◌≡◌ {A = ℕ} 1 2 = sym (is 1 (plain_answer 0)) ∙ (same_field f answers.1.1.0 ∙ is 2 (plain_answer 0)) in
     omega (arith, z)
 
-size-shown : ¬ (MarkHidden (altered size_shows))
+size_shown : ¬ (MarkHidden (altered size_shows))
 unfolding bench new_fits run_from SameCalls SameAnswers padded payload_of same_key numbers_fit start_fits result_length front swept find chosen permitted pass tally ranked earliest stored start_split complete_split launching.launch delivering.deliver split_named split_from key_named key_from kind_of asked request_of configured_as requested within has_space not_silent fitting served step asks open_after is_open stores last_stored for_after last_for delivered_for
-size-shown claim =
-    let calls : List ℕ → List Call = λ x. configure ∷ in-to 5 ∷ Launch 64 ∷ Deliver 3 x ∷ complete 5 1 ∷ [] in
+size_shown claim =
+    let calls : List ℕ → List Call = λ x. configure ∷ in_to 5 ∷ Launch 64 ∷ Deliver 3 x ∷ complete 5 1 ∷ [] in
     let answers =
     claim key_in bench bench (calls (1 ∷ [])) (calls (2 ∷ [])) refl
     (same _, (same _, (same _, (deliver 3 (1 ∷ []) (2 ∷ []) (record { key = key_in; place = some 1 }) refl refl refl, (same _, tt))))) in
@@ -84,41 +84,41 @@ size-shown claim =
     omega (arith, z)
 
 -- the marked payload lies in buffer 0 when device 6, in buffer 1, is launched
-wrong-payload : ¬ (MarkHidden (altered wrong_payload))
+wrong_payload_lem : ¬ (MarkHidden (altered wrong_payload))
 unfolding bench new_fits run_from SameCalls SameAnswers padded payload_of same_key numbers_fit start_fits result_length front swept find chosen permitted pass tally ranked earliest stored start_split complete_split launching.launch delivering.deliver split_named split_from key_named key_from kind_of asked request_of configured_as requested within has_space not_silent fitting served step asks open_after is_open stores last_stored for_after last_for delivered_for
-wrong-payload claim =
-    let calls : List ℕ → List Call = λ x. configure ∷ in-to 7 ∷ in-to 6 ∷ Launch 64 ∷ Deliver 3 [] ∷ complete 7 1 ∷ out-5 x ∷ Launch 64 ∷ [] in
+wrong_payload_lem claim =
+    let calls : List ℕ → List Call = λ x. configure ∷ in_to 7 ∷ in_to 6 ∷ Launch 64 ∷ Deliver 3 [] ∷ complete 7 1 ∷ out_5 x ∷ Launch 64 ∷ [] in
     let answers =
-    claim key-out bench bench (calls (1 ∷ [])) (calls (2 ∷ [])) refl
+    claim key_out bench bench (calls (1 ∷ [])) (calls (2 ∷ [])) refl
     (same _, (same _, (same _, (same _, (same _, (same _, (start 0 1 2 0 0 5 1 (1 ∷ []) (2 ∷ []) refl refl, (same _, tt)))))))) in
     let z : ◌≡◌ {A = ℕ} 1 2 = ap (λ (l : List ℕ). get_or l 0 0) (answers.1.1.1.1.1.1.1.0.bytes (λ e. false≢true e)) in
     omega (arith, z)
 
 -- none of a request's bytes is excepted
-plain-request : (m : Marks) (z : Lane) (k : Kind) (v : ℕ) (a : Answer) → ¬ (Excepted m (request_asks z k v) a)
-plain-request m z kind.Unknown v a e = e
-plain-request m z kind.SetConfiguration v a e = e
-plain-request m z kind.GetConfiguration v a e = e
-plain-request m z kind.GetHubDescriptor v a e = e
-plain-request m z kind.GetHubStatus v a e = e
-plain-request m z kind.GetPortStatus v a e = e
-plain-request m z kind.ClearHubFeature v a e = e
-plain-request m z kind.ClearPortFeature v a e = e
-plain-request m z kind.SetPortFeature v a e = e
-plain-request m z kind.ClearTTBuffer v a e = e
-plain-request m z kind.ResetTT v a e = e
+plain_request : (m : Marks) (z : Lane) (k : Kind) (v : ℕ) (a : Answer) → ¬ (Excepted m (request_asks z k v) a)
+plain_request m z kind.Unknown v a e = e
+plain_request m z kind.SetConfiguration v a e = e
+plain_request m z kind.GetConfiguration v a e = e
+plain_request m z kind.GetHubDescriptor v a e = e
+plain_request m z kind.GetHubStatus v a e = e
+plain_request m z kind.GetPortStatus v a e = e
+plain_request m z kind.ClearHubFeature v a e = e
+plain_request m z kind.ClearPortFeature v a e = e
+plain_request m z kind.SetPortFeature v a e = e
+plain_request m z kind.ClearTTBuffer v a e = e
+plain_request m z kind.ResetTT v a e = e
 
-plain-call : (m : Marks) (c : Call) (a : Answer) → is_other c ≡ true → ¬ (Excepted m (asks c) a)
+plain_call : (m : Marks) (c : Call) (a : Answer) → is_other c ≡ true → ¬ (Excepted m (asks c) a)
 unfolding asks
-plain-call m (Control z s room) a o = plain-request m (lane_from z) (kind_of (setup_of s).requesttype (setup_of s).code) (setup_of s).value a
-plain-call m (Poll z room) a o = λ e. e
-plain-call m (Start z p t f g b n l) a o = λ e. e
-plain-call m (Complete z b n d room) a o = absurd (false≢true o)
-plain-call m (Launch room) a o = absurd (false≢true o)
-plain-call m (Deliver r l) a o = λ e. e
-plain-call m (Line e n) a o = λ e. e
-plain-call m Tick a o = λ e. e
-plain-call m BusReset a o = λ e. e
+plain_call m (Control z s room) a o = plain_request m (lane_from z) (kind_of (setup_of s).requesttype (setup_of s).code) (setup_of s).value a
+plain_call m (Poll z room) a o = λ e. e
+plain_call m (Start z p t f g b n l) a o = λ e. e
+plain_call m (Complete z b n d room) a o = absurd (false≢true o)
+plain_call m (Launch room) a o = absurd (false≢true o)
+plain_call m (Deliver r l) a o = λ e. e
+plain_call m (Line e n) a o = λ e. e
+plain_call m Tick a o = λ e. e
+plain_call m BusReset a o = λ e. e
 
 first_of : (b : Bool) (n : ℕ) (l : List ℕ) → b ≡ true → get_or (cond b (n ∷ []) l) 0 0 ≡ n
 first_of true n l e = refl
@@ -127,49 +127,49 @@ first_of false n l e = absurd (false≢true e)
 given : (p : Call → Bool) (c : Call) → p c ≡ true → is_other c ≡ true → ¬ (MarkHidden (ruled (given_to p)))
 unfolding bench new_fits run_from SameCalls SameAnswers padded payload_of same_key numbers_fit start_fits result_length front swept find chosen permitted pass tally ranked earliest stored start_split complete_split launching.launch delivering.deliver split_named split_from key_named key_from kind_of asked request_of configured_as requested within has_space not_silent fitting served step open_after is_open stores last_stored for_after last_for delivered_for
 given p c e o claim =
-    let calls : List ℕ → List Call = λ x. configure ∷ out-5 x ∷ c ∷ [] in
+    let calls : List ℕ → List Call = λ x. configure ∷ out_5 x ∷ c ∷ [] in
     let answers =
-    claim key-out bench bench (calls (1 ∷ [])) (calls (2 ∷ [])) refl (same _, (start 0 1 2 0 0 5 1 (1 ∷ []) (2 ∷ []) refl refl, (same _, tt))) in
+    claim key_out bench bench (calls (1 ∷ [])) (calls (2 ∷ [])) refl (same _, (start 0 1 2 0 0 5 1 (1 ∷ []) (2 ∷ []) refl refl, (same _, tt))) in
     let z : ◌≡◌ {A = ℕ} 1 2 =
-    sym (first_of (p c) 1 _ e) ∙ (ap (λ (l : List ℕ). get_or l 0 0) (answers.1.1.0.bytes (plain-call (only_key key-out) c _ o)) ∙ first_of (p c) 2 _ e) in
+    sym (first_of (p c) 1 _ e) ∙ (ap (λ (l : List ℕ). get_or l 0 0) (answers.1.1.0.bytes (plain_call (only_key key_out) c _ o)) ∙ first_of (p c) 2 _ e) in
     omega (arith, z)
 
-memory-shown : (f : Field) (put : ℕ → Answer → Answer) → Puts f put → ¬ (MarkHidden (memory_shows put))
+memory_shown : (f : Field) (put : ℕ → Answer → Answer) → Puts f put → ¬ (MarkHidden (memory_shows put))
 unfolding bench new_fits run_from SameCalls SameAnswers padded payload_of same_key numbers_fit start_fits result_length front swept find chosen permitted pass tally ranked earliest stored start_split complete_split launching.launch delivering.deliver split_named split_from key_named key_from kind_of asked request_of configured_as requested within has_space not_silent fitting served step asks open_after is_open stores last_stored for_after last_for delivered_for
-memory-shown f put is claim =
+memory_shown f put is claim =
     let over : ℕ → Memory = λ b. record { numbers = bench; byte = b } in
-    let answers = claim key-out (over 1) (over 2) (Tick ∷ []) (Tick ∷ []) refl (same _, tt) in
-    let z : ◌≡◌ {A = ℕ} 1 2 = sym (is 1 (plain_answer 0)) ∙ (same-field f answers.0 ∙ is 2 (plain_answer 0)) in
+    let answers = claim key_out (over 1) (over 2) (Tick ∷ []) (Tick ∷ []) refl (same _, tt) in
+    let z : ◌≡◌ {A = ℕ} 1 2 = sym (is 1 (plain_answer 0)) ∙ (same_field f answers.0 ∙ is 2 (plain_answer 0)) in
     omega (arith, z)
 
 -- the PID of the first
-first-pid : List Delivered → ℕ
-first-pid [] = 0
-first-pid (d ∷ ds) = d.pid
+first_pid : List Delivered → ℕ
+first_pid [] = 0
+first_pid (d ∷ ds) = d.pid
 
-other-pid : ¬ (DataExplained (altered other_pid))
-unfolding first-pid bench new_fits run_from AllExplained padded payload_of same_key numbers_fit start_fits result_length front swept find chosen permitted pass tally ranked earliest stored start_split complete_split launching.launch delivering.deliver split_named split_from key_named key_from kind_of asked request_of configured_as requested within has_space not_silent fitting served step asks open_after is_open stores last_stored for_after last_for delivered_for
-other-pid claim =
+other_pid_lem : ¬ (DataExplained (altered other_pid))
+unfolding first_pid bench new_fits run_from AllExplained padded payload_of same_key numbers_fit start_fits result_length front swept find chosen permitted pass tally ranked earliest stored start_split complete_split launching.launch delivering.deliver split_named split_from key_named key_from kind_of asked request_of configured_as requested within has_space not_silent fitting served step asks open_after is_open stores last_stored for_after last_for delivered_for
+other_pid_lem claim =
     let z : ◌≡◌ {A = ℕ} 3 11 =
-    ap first-pid ((claim bench (configure ∷ in-to 5 ∷ Launch 64 ∷ Deliver 3 (9 ∷ []) ∷ complete 5 1 ∷ [])).1.1.1.1.0 refl) in
+    ap first_pid ((claim bench (configure ∷ in_to 5 ∷ Launch 64 ∷ Deliver 3 (9 ∷ []) ∷ complete 5 1 ∷ [])).1.1.1.1.0 refl) in
     omega (arith, z)
 
-second-result : ¬ (DataExplained (ruled second_result))
+second_result_lem : ¬ (DataExplained (ruled second_result))
 unfolding bench new_fits run_from AllExplained padded payload_of same_key numbers_fit start_fits result_length front swept find chosen permitted pass tally ranked earliest stored start_split complete_split launching.launch delivering.deliver split_named split_from key_named key_from kind_of asked request_of configured_as requested within has_space not_silent fitting served step asks open_after is_open stores last_stored for_after last_for delivered_for
-second-result claim =
+second_result_lem claim =
     let z : ◌≡◌ {A = ℕ} 2 1 =
     ap (length {A = Delivered})
-    ((claim bench (configure ∷ in-to 5 ∷ Launch 64 ∷ Deliver 3 (8 ∷ []) ∷ Deliver 3 (9 ∷ []) ∷ complete 5 1 ∷ [])).1.1.1.1.1.0 refl) in
+    ((claim bench (configure ∷ in_to 5 ∷ Launch 64 ∷ Deliver 3 (8 ∷ []) ∷ Deliver 3 (9 ∷ []) ∷ complete 5 1 ∷ [])).1.1.1.1.1.0 refl) in
     omega (arith, z)
 
-pub hiding-mistakes-shut-out : HidingMistakesShutOut
-hiding-mistakes-shut-out =
+pub hiding_mistakes_shut_out_lem : HidingMistakesShutOut
+hiding_mistakes_shut_out_lem =
     record {
       shown = shown;
       given = given;
-      size-shown = size-shown;
-      wrong-payload = wrong-payload;
-      memory-shown = memory-shown;
-      other-pid = other-pid;
-      second-result = second-result;
+      size_shown = size_shown;
+      wrong_payload_lem = wrong_payload_lem;
+      memory_shown = memory_shown;
+      other_pid_lem = other_pid_lem;
+      second_result_lem = second_result_lem;
     }

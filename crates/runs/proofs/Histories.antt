@@ -13,7 +13,7 @@ use Rattle.buffer.specs.declared.Key.{Key}
 use Rattle.buffer.specs.declared.DeviceResult.{DeviceResult}
 use Rattle.buffer.specs.Same.{same_key}
 use Rattle.buffer.specs.Key.{same_lane}
-use Rattle.buffer.proofs.Keys.{same_true, same-eq, same-ne, key?}
+use Rattle.buffer.proofs.Keys.{same_true, same_eq, same_ne, key?}
 use Rattle.hub.specs.Call.{Answer}
 use Rattle.runs.specs.History.{Event, History, Asks, nothing, starts, completes, launches, delivers, clears, resets, empties, asks, answer_key, is_done, gives_result, open_after, is_open, stores, last_stored, For, for_after, last_for, is_at, is_for, data_of, delivered_for}
 use Rattle.runs.specs.Tally.{answers_it, is_answered_at}
@@ -41,10 +41,10 @@ abbrev ForBelow : Option For → ℕ → Type 0
 ForBelow none n = Unit {0}
 ForBelow (some l) n = Below l.place n
 
-for-below : (h : History) → ForBelow (last_for h) (length h)
+for_below : (h : History) → ForBelow (last_for h) (length h)
 unfolding last_for for_after
-for-below [] = tt
-for-below (e ∷ h) = go (asks e.call) (last_for h) (for-below h)
+for_below [] = tt
+for_below (e ∷ h) = go (asks e.call) (last_for h) (for_below h)
   where
     up : (o : Option For) → ForBelow o (length h) → ForBelow o (suc (length h))
     up none b = tt
@@ -65,24 +65,24 @@ for-below (e ∷ h) = go (asks e.call) (last_for h) (for-below h)
     go empties o b = up o b
 
 -- nothing was launched or delivered for a start-split that is yet to come
-not-for : (o : Option For) (n s : ℕ) → ForBelow o n → n ≤ s → is_for o s ≡ false
-not-for none n s b h = refl
-not-for (some l) n s b h = go l.place b
+not_for : (o : Option For) (n s : ℕ) → ForBelow o n → n ≤ s → is_for o s ≡ false
+not_for none n s b h = refl
+not_for (some l) n s b h = go l.place b
   where
     go : (o : Option ℕ) → Below o n → is_at o s ≡ false
     go none b = refl
     go (some m) b = ne_eqb m s (λ e. omega arith)
 
-pub fresh-for : (h : History) → is_for (last_for h) (length h) ≡ false
-fresh-for h = not-for (last_for h) (length h) (length h) (for-below h) (omega arith)
+pub fresh_for : (h : History) → is_for (last_for h) (length h) ≡ false
+fresh_for h = not_for (last_for h) (length h) (length h) (for_below h) (omega arith)
 
-fresh-from : (h : History) (s : ℕ) → length h ≤ s → delivered_for h s ≡ []
+fresh_from : (h : History) (s : ℕ) → length h ≤ s → delivered_for h s ≡ []
 unfolding delivered_for
-fresh-from [] s b = refl
-fresh-from (e ∷ h) s b = rw (not-for (last_for h) (length h) s (for-below h) (omega arith)) (fresh-from h s (omega arith))
+fresh_from [] s b = refl
+fresh_from (e ∷ h) s b = rw (not_for (last_for h) (length h) s (for_below h) (omega arith)) (fresh_from h s (omega arith))
 
 pub fresh : (h : History) → delivered_for h (length h) ≡ []
-fresh h = fresh-from h (length h) (omega arith)
+fresh h = fresh_from h (length h) (omega arith)
 
 -- ---- a place is stored under one key
 
@@ -127,7 +127,7 @@ one_key (e ∷ h) k l s p q =
 -- the keys of P keep what the history says of them
 pub record Keeps (h : History) (e : Event) (P : Key → Type 0) : Type 0 where
   pub open_kept : (k : Key) → P k → is_open (e ∷ h) k ≡ is_open h k
-  pub stored-kept : (k : Key) → P k → last_stored (e ∷ h) k ≡ last_stored h k
+  pub stored_kept : (k : Key) → P k → last_stored (e ∷ h) k ≡ last_stored h k
 
 abbrev pub Any : Key → Type 0
 Any k = Unit {0}
@@ -135,100 +135,100 @@ Any k = Unit {0}
 abbrev pub Else : Key → Key → Type 0
 Else k l = ¬ (k ≡ l)
 
-pub keeps-any : {h : History} {e : Event} → Keeps h e Any → (P : Key → Type 0) → Keeps h e P
-keeps-any kp P = record { open_kept = λ k _. kp.open_kept k tt; stored-kept = λ k _. kp.stored-kept k tt }
+pub keeps_any : {h : History} {e : Event} → Keeps h e Any → (P : Key → Type 0) → Keeps h e P
+keeps_any kp P = record { open_kept = λ k _. kp.open_kept k tt; stored_kept = λ k _. kp.stored_kept k tt }
 
 module _ (h : History) (e : Event) where
-  keeps-by : (P : Key → Type 0) → ((k : Key) → P k → open_after (asks e.call) e.answer k (is_open h k) ≡ is_open h k)
+  keeps_by : (P : Key → Type 0) → ((k : Key) → P k → open_after (asks e.call) e.answer k (is_open h k) ≡ is_open h k)
       → ((k : Key) → P k → stores (asks e.call) e.answer k (is_open h k) ≡ false) → Keeps h e P
   unfolding is_open last_stored
-  keeps-by P o s = record { open_kept = o; stored-kept = λ k p. rw (s k p) }
+  keeps_by P o s = record { open_kept = o; stored_kept = λ k p. rw (s k p) }
 
-  pub no-data : data_of (asks e.call) e.answer ≡ [] → (s : ℕ) → delivered_for (e ∷ h) s ≡ delivered_for h s
+  pub no_data : data_of (asks e.call) e.answer ≡ [] → (s : ℕ) → delivered_for (e ∷ h) s ≡ delivered_for h s
   unfolding delivered_for
-  no-data n s = rw n (go (is_for (last_for h) s))
+  no_data n s = rw n (go (is_for (last_for h) s))
     where
       go : (t : Bool) → cond t (delivered_for h s) (delivered_for h s) ≡ delivered_for h s
       go true = refl
       go false = refl
 
   -- a delivery for another start-split, or none
-  pub not-for-it : (s : ℕ) → is_for (last_for h) s ≡ false → delivered_for (e ∷ h) s ≡ delivered_for h s
+  pub not_for_it : (s : ℕ) → is_for (last_for h) s ≡ false → delivered_for (e ∷ h) s ≡ delivered_for h s
   unfolding delivered_for
-  not-for-it s n = rw n
+  not_for_it s n = rw n
 
 -- an event that says nothing of any key: what is asked is nothing, or the answer is a refusal
 pub record Silent (h : History) (e : Event) : Type 0 where
   pub keeps : Keeps h e Any
-  pub for-kept : last_for (e ∷ h) ≡ last_for h
-  pub data-kept : (s : ℕ) → delivered_for (e ∷ h) s ≡ delivered_for h s
+  pub for_kept : last_for (e ∷ h) ≡ last_for h
+  pub data_kept : (s : ℕ) → delivered_for (e ∷ h) s ≡ delivered_for h s
 
-pub silent-nothing : (h : History) (e : Event) → asks e.call ≡ nothing → Silent h e
+pub silent_nothing : (h : History) (e : Event) → asks e.call ≡ nothing → Silent h e
 unfolding open_after stores last_for for_after
-silent-nothing h e q =
+silent_nothing h e q =
     record {
-      keeps = keeps-by h e Any (λ k _. rw q) (λ k _. rw q);
-      for-kept = rw q;
-      data-kept = no-data h e (ap (λ (x : Asks). data_of x e.answer) q);
+      keeps = keeps_by h e Any (λ k _. rw q) (λ k _. rw q);
+      for_kept = rw q;
+      data_kept = no_data h e (ap (λ (x : Asks). data_of x e.answer) q);
     }
 
 -- no number that opens, closes, stores or gives
 pub record Refused (a : Answer) : Type 0 where
-  pub not-0 : eqb a.number 0 ≡ false
-  pub not-1 : eqb a.number 1 ≡ false
-  pub not-9 : eqb a.number 9 ≡ false
+  pub not_0 : eqb a.number 0 ≡ false
+  pub not_1 : eqb a.number 1 ≡ false
+  pub not_9 : eqb a.number 9 ≡ false
 
 module _ (a : Answer) (r : Refused a) where
-  open-refused : (x : Asks) (k : Key) (o : Bool) → open_after x a k o ≡ o
+  open_refused : (x : Asks) (k : Key) (o : Bool) → open_after x a k o ≡ o
   unfolding open_after
-  open-refused nothing k o = refl
-  open-refused (starts l) k o = rw r.not-0
-  open-refused (completes l) k o = rw (r.not-1, r.not-9)
-  open-refused launches k o = refl
-  open-refused (delivers x l) k o = refl
-  open-refused (clears l) k o = rw r.not-0
-  open-refused (resets z) k o = rw r.not-0
-  open-refused empties k o = rw r.not-0
+  open_refused nothing k o = refl
+  open_refused (starts l) k o = rw r.not_0
+  open_refused (completes l) k o = rw (r.not_1, r.not_9)
+  open_refused launches k o = refl
+  open_refused (delivers x l) k o = refl
+  open_refused (clears l) k o = rw r.not_0
+  open_refused (resets z) k o = rw r.not_0
+  open_refused empties k o = rw r.not_0
 
-  stores-refused : (x : Asks) (k : Key) (o : Bool) → stores x a k o ≡ false
+  stores_refused : (x : Asks) (k : Key) (o : Bool) → stores x a k o ≡ false
   unfolding stores
-  stores-refused nothing k o = refl
-  stores-refused (starts l) k o = rw r.not-0
-  stores-refused (completes l) k o = refl
-  stores-refused launches k o = refl
-  stores-refused (delivers x l) k o = refl
-  stores-refused (clears l) k o = refl
-  stores-refused (resets z) k o = refl
-  stores-refused empties k o = refl
+  stores_refused nothing k o = refl
+  stores_refused (starts l) k o = rw r.not_0
+  stores_refused (completes l) k o = refl
+  stores_refused launches k o = refl
+  stores_refused (delivers x l) k o = refl
+  stores_refused (clears l) k o = refl
+  stores_refused (resets z) k o = refl
+  stores_refused empties k o = refl
 
-  for-refused : (x : Asks) (h : History) (l : Option For) → for_after x a h l ≡ l
+  for_refused : (x : Asks) (h : History) (l : Option For) → for_after x a h l ≡ l
   unfolding for_after
-  for-refused nothing h l = refl
-  for-refused (starts k) h l = refl
-  for-refused (completes k) h l = refl
-  for-refused launches h l = rw r.not-1
-  for-refused (delivers x y) h l = refl
-  for-refused (clears k) h l = refl
-  for-refused (resets z) h l = refl
-  for-refused empties h l = refl
+  for_refused nothing h l = refl
+  for_refused (starts k) h l = refl
+  for_refused (completes k) h l = refl
+  for_refused launches h l = rw r.not_1
+  for_refused (delivers x y) h l = refl
+  for_refused (clears k) h l = refl
+  for_refused (resets z) h l = refl
+  for_refused empties h l = refl
 
-  data-refused : (x : Asks) → data_of x a ≡ []
-  data-refused nothing = refl
-  data-refused (starts k) = refl
-  data-refused (completes k) = refl
-  data-refused launches = refl
-  data-refused (delivers x l) = rw r.not-0
-  data-refused (clears k) = refl
-  data-refused (resets z) = refl
-  data-refused empties = refl
+  data_refused : (x : Asks) → data_of x a ≡ []
+  data_refused nothing = refl
+  data_refused (starts k) = refl
+  data_refused (completes k) = refl
+  data_refused launches = refl
+  data_refused (delivers x l) = rw r.not_0
+  data_refused (clears k) = refl
+  data_refused (resets z) = refl
+  data_refused empties = refl
 
-pub silent-refused : (h : History) (e : Event) → Refused e.answer → Silent h e
+pub silent_refused : (h : History) (e : Event) → Refused e.answer → Silent h e
 unfolding last_for
-silent-refused h e r =
+silent_refused h e r =
     record {
-      keeps = keeps-by h e Any (λ k _. open-refused e.answer r (asks e.call) k (is_open h k)) (λ k _. stores-refused e.answer r (asks e.call) k (is_open h k));
-      for-kept = for-refused e.answer r (asks e.call) h (last_for h);
-      data-kept = no-data h e (data-refused e.answer r (asks e.call));
+      keeps = keeps_by h e Any (λ k _. open_refused e.answer r (asks e.call) k (is_open h k)) (λ k _. stores_refused e.answer r (asks e.call) k (is_open h k));
+      for_kept = for_refused e.answer r (asks e.call) h (last_for h);
+      data_kept = no_data h e (data_refused e.answer r (asks e.call));
     }
 
 -- ---- what each call says of its key
@@ -236,114 +236,114 @@ silent-refused h e r =
 module _ (h : History) (e : Event) (k : Key) where
   -- a start-split answered 0
   module _ (q : asks e.call ≡ starts k) (d : is_done e.answer ≡ true) where
-    pub keeps-start : Keeps h e (Else k)
+    pub keeps_start : Keeps h e (Else k)
     unfolding open_after stores
-    keeps-start = keeps-by h e (Else k) (λ l n. rw (q, d, same-ne k l n)) (λ l n. rw (q, d, same-ne k l n))
+    keeps_start = keeps_by h e (Else k) (λ l n. rw (q, d, same_ne k l n)) (λ l n. rw (q, d, same_ne k l n))
 
-    pub start-opens : is_open (e ∷ h) k ≡ true
+    pub start_opens : is_open (e ∷ h) k ≡ true
     unfolding is_open open_after
-    start-opens = rw (q, d, same-eq k k refl)
+    start_opens = rw (q, d, same_eq k k refl)
 
-    pub start-stores : is_open h k ≡ false → last_stored (e ∷ h) k ≡ some (length h)
+    pub start_stores : is_open h k ≡ false → last_stored (e ∷ h) k ≡ some (length h)
     unfolding last_stored stores
-    start-stores o = rw (q, d, same-eq k k refl, o)
+    start_stores o = rw (q, d, same_eq k k refl, o)
 
     -- a repeat: its key is open already
-    pub keeps-repeat : is_open h k ≡ true → Keeps h e Any
+    pub keeps_repeat : is_open h k ≡ true → Keeps h e Any
     unfolding open_after stores
-    keeps-repeat o = keeps-by h e Any (λ l _. rw (q, d) (opened l (key? k l))) (λ l _. rw (q, d) (stored l (key? k l)))
+    keeps_repeat o = keeps_by h e Any (λ l _. rw (q, d) (opened l (key? k l))) (λ l _. rw (q, d) (stored l (key? k l)))
       where
         opened : (l : Key) → Dec (k ≡ l) → (same_key k l || is_open h l) ≡ is_open h l
-        opened l (yes x) = rw (same-eq k l x) (sym o ∙ ap (is_open h) x)
-        opened l (no x) = rw (same-ne k l x)
+        opened l (yes x) = rw (same_eq k l x) (sym o ∙ ap (is_open h) x)
+        opened l (no x) = rw (same_ne k l x)
 
         stored : (l : Key) → Dec (k ≡ l) → (same_key k l && not (is_open h l)) ≡ false
-        stored l (yes x) = rw (same-eq k l x, ← x, o)
-        stored l (no x) = rw (same-ne k l x)
+        stored l (yes x) = rw (same_eq k l x, ← x, o)
+        stored l (no x) = rw (same_ne k l x)
 
-  pub start-for : asks e.call ≡ starts k → last_for (e ∷ h) ≡ last_for h
+  pub start_for : asks e.call ≡ starts k → last_for (e ∷ h) ≡ last_for h
   unfolding last_for for_after
-  start-for q = rw q
+  start_for q = rw q
 
-  pub start-data : asks e.call ≡ starts k → (s : ℕ) → delivered_for (e ∷ h) s ≡ delivered_for h s
-  start-data q = no-data h e (ap (λ (x : Asks). data_of x e.answer) q)
+  pub start_data : asks e.call ≡ starts k → (s : ℕ) → delivered_for (e ∷ h) s ≡ delivered_for h s
+  start_data q = no_data h e (ap (λ (x : Asks). data_of x e.answer) q)
 
   -- a complete-split
   module _ (q : asks e.call ≡ completes k) where
-    pub keeps-complete : Keeps h e (Else k)
+    pub keeps_complete : Keeps h e (Else k)
     unfolding open_after stores
-    keeps-complete = keeps-by h e (Else k) (λ l n. rw (q, same-ne k l n, and-false (gives_result e.answer))) (λ l n. rw q)
+    keeps_complete = keeps_by h e (Else k) (λ l n. rw (q, same_ne k l n, and-false (gives_result e.answer))) (λ l n. rw q)
 
-    pub complete-closes : gives_result e.answer ≡ true → is_open (e ∷ h) k ≡ false
+    pub complete_closes : gives_result e.answer ≡ true → is_open (e ∷ h) k ≡ false
     unfolding is_open open_after
-    complete-closes r = rw (q, same-eq k k refl, r)
+    complete_closes r = rw (q, same_eq k k refl, r)
 
-    pub complete-stores : (l : Key) → last_stored (e ∷ h) l ≡ last_stored h l
+    pub complete_stores : (l : Key) → last_stored (e ∷ h) l ≡ last_stored h l
     unfolding last_stored stores
-    complete-stores l = rw q
+    complete_stores l = rw q
 
     -- closed stays closed
-    pub complete-closed : (l : Key) → is_open h l ≡ false → is_open (e ∷ h) l ≡ false
+    pub complete_closed : (l : Key) → is_open h l ≡ false → is_open (e ∷ h) l ≡ false
     unfolding is_open open_after
-    complete-closed l o = rw (q, o, and-false (not (gives_result e.answer && same_key k l)))
+    complete_closed l o = rw (q, o, and-false (not (gives_result e.answer && same_key k l)))
 
-    pub complete-for : last_for (e ∷ h) ≡ last_for h
+    pub complete_for : last_for (e ∷ h) ≡ last_for h
     unfolding last_for for_after
-    complete-for = rw q
+    complete_for = rw q
 
-    pub complete-data : (s : ℕ) → delivered_for (e ∷ h) s ≡ delivered_for h s
-    complete-data = no-data h e (ap (λ (x : Asks). data_of x e.answer) q)
+    pub complete_data : (s : ℕ) → delivered_for (e ∷ h) s ≡ delivered_for h s
+    complete_data = no_data h e (ap (λ (x : Asks). data_of x e.answer) q)
 
   -- ClearTTBuffer answered 0
   module _ (q : asks e.call ≡ clears k) (d : is_done e.answer ≡ true) where
-    pub keeps-clear : Keeps h e (Else k)
+    pub keeps_clear : Keeps h e (Else k)
     unfolding open_after stores
-    keeps-clear = keeps-by h e (Else k) (λ l n. rw (q, d, same-ne k l n)) (λ l n. rw q)
+    keeps_clear = keeps_by h e (Else k) (λ l n. rw (q, d, same_ne k l n)) (λ l n. rw q)
 
-    pub clear-closes : is_open (e ∷ h) k ≡ false
+    pub clear_closes : is_open (e ∷ h) k ≡ false
     unfolding is_open open_after
-    clear-closes = rw (q, d, same-eq k k refl)
+    clear_closes = rw (q, d, same_eq k k refl)
 
     -- its key is closed already
-    pub keeps-closed : is_open h k ≡ false → Keeps h e Any
+    pub keeps_closed : is_open h k ≡ false → Keeps h e Any
     unfolding open_after stores
-    keeps-closed o = keeps-by h e Any (λ l _. rw (q, d) (opened l (key? k l))) (λ l _. rw q)
+    keeps_closed o = keeps_by h e Any (λ l _. rw (q, d) (opened l (key? k l))) (λ l _. rw q)
       where
         opened : (l : Key) → Dec (k ≡ l) → (not (same_key k l) && is_open h l) ≡ is_open h l
-        opened l (yes x) = rw (same-eq k l x) (sym o ∙ ap (is_open h) x)
-        opened l (no x) = rw (same-ne k l x)
+        opened l (yes x) = rw (same_eq k l x) (sym o ∙ ap (is_open h) x)
+        opened l (no x) = rw (same_ne k l x)
 
-    pub clear-for : last_for (e ∷ h) ≡ last_for h
+    pub clear_for : last_for (e ∷ h) ≡ last_for h
     unfolding last_for for_after
-    clear-for = rw q
+    clear_for = rw q
 
-    pub clear-data : (s : ℕ) → delivered_for (e ∷ h) s ≡ delivered_for h s
-    clear-data = no-data h e (ap (λ (x : Asks). data_of x e.answer) q)
+    pub clear_data : (s : ℕ) → delivered_for (e ∷ h) s ≡ delivered_for h s
+    clear_data = no_data h e (ap (λ (x : Asks). data_of x e.answer) q)
 
 module _ (h : History) (e : Event) where
-  pub keeps-launch : asks e.call ≡ launches → Keeps h e Any
+  pub keeps_launch : asks e.call ≡ launches → Keeps h e Any
   unfolding open_after stores
-  keeps-launch q = keeps-by h e Any (λ k _. rw q) (λ k _. rw q)
+  keeps_launch q = keeps_by h e Any (λ k _. rw q) (λ k _. rw q)
 
-  pub launch-data : asks e.call ≡ launches → (s : ℕ) → delivered_for (e ∷ h) s ≡ delivered_for h s
-  launch-data q = no-data h e (ap (λ (x : Asks). data_of x e.answer) q)
+  pub launch_data : asks e.call ≡ launches → (s : ℕ) → delivered_for (e ∷ h) s ≡ delivered_for h s
+  launch_data q = no_data h e (ap (λ (x : Asks). data_of x e.answer) q)
 
-  pub launch-for : asks e.call ≡ launches → eqb e.answer.number 1 ≡ true
+  pub launch_for : asks e.call ≡ launches → eqb e.answer.number 1 ≡ true
       → last_for (e ∷ h) ≡ some (record { key = answer_key e.answer; place = last_stored h (answer_key e.answer) })
   unfolding last_for for_after
-  launch-for q n = rw (q, n)
+  launch_for q n = rw (q, n)
 
-  pub keeps-deliver : (r : DeviceResult) (l : List ℕ) → asks e.call ≡ delivers r l → Keeps h e Any
+  pub keeps_deliver : (r : DeviceResult) (l : List ℕ) → asks e.call ≡ delivers r l → Keeps h e Any
   unfolding open_after stores
-  keeps-deliver r l q = keeps-by h e Any (λ k _. rw q) (λ k _. rw q)
+  keeps_deliver r l q = keeps_by h e Any (λ k _. rw q) (λ k _. rw q)
 
-  pub deliver-for : (r : DeviceResult) (l : List ℕ) → asks e.call ≡ delivers r l → last_for (e ∷ h) ≡ last_for h
+  pub deliver_for : (r : DeviceResult) (l : List ℕ) → asks e.call ≡ delivers r l → last_for (e ∷ h) ≡ last_for h
   unfolding last_for for_after
-  deliver-for r l q = rw q
+  deliver_for r l q = rw q
 
-  pub empty-closes : asks e.call ≡ empties → is_done e.answer ≡ true → (k : Key) → is_open (e ∷ h) k ≡ false
+  pub empty_closes : asks e.call ≡ empties → is_done e.answer ≡ true → (k : Key) → is_open (e ∷ h) k ≡ false
   unfolding is_open open_after
-  empty-closes q d k = rw (q, d)
+  empty_closes q d k = rw (q, d)
 
 -- the keys of another lane
 abbrev pub Other : Lane → Key → Type 0
@@ -351,32 +351,32 @@ Other z k = same_lane k.lane z ≡ false
 
 -- ResetTT from a lane, answered 0
 module _ (h : History) (e : Event) (z : Lane) (q : asks e.call ≡ resets z) (d : is_done e.answer ≡ true) where
-  pub keeps-reset : Keeps h e (Other z)
+  pub keeps_reset : Keeps h e (Other z)
   unfolding open_after stores
-  keeps-reset = keeps-by h e (Other z) (λ k n. rw (q, d, n)) (λ k n. rw q)
+  keeps_reset = keeps_by h e (Other z) (λ k n. rw (q, d, n)) (λ k n. rw q)
 
-  pub reset-closes : (k : Key) → same_lane k.lane z ≡ true → is_open (e ∷ h) k ≡ false
+  pub reset_closes : (k : Key) → same_lane k.lane z ≡ true → is_open (e ∷ h) k ≡ false
   unfolding is_open open_after
-  reset-closes k n = rw (q, d, n)
+  reset_closes k n = rw (q, d, n)
 
-  pub reset-stores : (k : Key) → last_stored (e ∷ h) k ≡ last_stored h k
+  pub reset_stores : (k : Key) → last_stored (e ∷ h) k ≡ last_stored h k
   unfolding last_stored stores
-  reset-stores k = rw q
+  reset_stores k = rw q
 
-  pub reset-for : last_for (e ∷ h) ≡ last_for h
+  pub reset_for : last_for (e ∷ h) ≡ last_for h
   unfolding last_for for_after
-  reset-for = rw q
+  reset_for = rw q
 
-  pub reset-data : (s : ℕ) → delivered_for (e ∷ h) s ≡ delivered_for h s
-  reset-data = no-data h e (ap (λ (x : Asks). data_of x e.answer) q)
+  pub reset_data : (s : ℕ) → delivered_for (e ∷ h) s ≡ delivered_for h s
+  reset_data = no_data h e (ap (λ (x : Asks). data_of x e.answer) q)
 
 -- ---- answered start-splits
 
-pub stays-answered : (h : History) (e : Event) (s : ℕ) → is_answered_at h s ≡ true → is_answered_at (e ∷ h) s ≡ true
+pub stays_answered : (h : History) (e : Event) (s : ℕ) → is_answered_at h s ≡ true → is_answered_at (e ∷ h) s ≡ true
 unfolding is_answered_at
-stays-answered h e s p = rw p (or-true (answers_it (asks e.call) e.answer h s))
+stays_answered h e s p = rw p (or-true (answers_it (asks e.call) e.answer h s))
 
 -- by a complete-split answered 1 or 9 under the key that it was last stored under
-pub now-answered : (h : History) (e : Event) (k : Key) (s : ℕ) → asks e.call ≡ completes k → gives_result e.answer ≡ true → last_stored h k ≡ some s → is_answered_at (e ∷ h) s ≡ true
+pub now_answered : (h : History) (e : Event) (k : Key) (s : ℕ) → asks e.call ≡ completes k → gives_result e.answer ≡ true → last_stored h k ≡ some s → is_answered_at (e ∷ h) s ≡ true
 unfolding is_answered_at answers_it
-now-answered h e k s q r l = rw (q, r, l, eq-eqb s s refl)
+now_answered h e k s q r l = rw (q, r, l, eq-eqb s s refl)

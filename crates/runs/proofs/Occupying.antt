@@ -62,13 +62,13 @@ use Rattle.hub.specs.Requests.{keyed, by_request, served_always, requested}
 use Rattle.hub.specs.Rules.{polled, completed_by, launch_answer, launched_as}
 use Rattle.hub.specs.Checks.{within, has_space, not_silent, fitting, first_refusal}
 use Rattle.hub.specs.Step.{served, step}
-use Rattle.hub.proofs.Order.{by-checks}
+use Rattle.hub.proofs.Order.{by_checks}
 use Rattle.hub.proofs.Valid.{completed-next}
 use Rattle.runs.specs.History.{History, Asks, nothing, starts, completes, launches, delivers, clears, resets, empties, request_asks, asks}
 use Rattle.runs.specs.Order.{occupied_after, is_occupied, EightIfOccupied}
 use Rattle.runs.specs.Machine.{Numbers, new_hub_of}
 use Rattle.runs.proofs.Kept.{ev}
-use Rattle.runs.proofs.Steps.{AsksFor, request-asks}
+use Rattle.runs.proofs.Steps.{AsksFor, request_asks_lem}
 
 -- A, of a launch alone
 abbrev pub OfLaunch : Type 0 → Asks → Type 0
@@ -88,9 +88,9 @@ occupied Abandoned = true
 
 -- ---- what keeps it as it is
 
-start-low : (t : Translator) (s : StartSplit) (l : List ℕ) → (start_split t s l).next.low ≡ t.low
+start_low : (t : Translator) (s : StartSplit) (l : List ℕ) → (start_split t s l).next.low ≡ t.low
 unfolding start_split stored
-start-low t s l = go (start_fits s (length l))
+start_low t s l = go (start_fits s (length l))
   where
     by : (x : Choice) → (start_by t s l x).next.low ≡ t.low
     by NoRoom = refl
@@ -103,9 +103,9 @@ start-low t s l = go (start_fits s (length l))
     go true = by (permitted t.count (key.key_of s) (take t.count t.buffers))
     go false = refl
 
-complete-low : (t : Translator) (k : Key) → (complete_split t k).next.low ≡ t.low
+complete_low : (t : Translator) (k : Key) → (complete_split t k).next.low ≡ t.low
 unfolding complete_split
-complete-low t k = go (find (holds k) (take t.count t.buffers))
+complete_low t k = go (find (holds k) (take t.count t.buffers))
   where
     slot : (n : BufferNumber) (s : Slot) → (completed t n (at t.buffers n.0).payload s).next.low ≡ t.low
     slot n Empty = refl
@@ -122,9 +122,9 @@ abandoned : (x : Bool) (n : BufferNumber) → occupied (cond x Abandoned (Runnin
 abandoned true n = refl
 abandoned false n = refl
 
-clear-low : (t : Translator) (k : Key) → occupied (clear_buffer t k).low ≡ occupied t.low
+clear_low : (t : Translator) (k : Key) → occupied (clear_buffer t k).low ≡ occupied t.low
 unfolding clear_buffer
-clear-low t k = go (find (holds k) (take t.count t.buffers))
+clear_low t k = go (find (holds k) (take t.count t.buffers))
   where
     without : (n : BufferNumber) (x : LowSide) → occupied (low_without n x) ≡ occupied x
     without n Idle = refl
@@ -135,9 +135,9 @@ clear-low t k = go (find (holds k) (take t.count t.buffers))
     go Nowhere = refl
     go (At n) = without n t.low
 
-reset-low : (t : Translator) (z : Lane) → occupied (reset_lane t z).low ≡ occupied t.low
+reset_low : (t : Translator) (z : Lane) → occupied (reset_lane t z).low ≡ occupied t.low
 unfolding reset_lane
-reset-low t z = go t.low
+reset_low t z = go t.low
   where
     go : (x : LowSide) → occupied (low_without_lane z t.buffers x) ≡ occupied x
     go Idle = refl
@@ -182,16 +182,16 @@ module _ (h : History) (hub : Hub) (side : SideOf h hub) where
   refusal : (c : Call) (n : ℕ) → eqb n 0 ≡ false → eqb n 1 ≡ false → SideBy c (refuse n hub)
   refusal c n e f = quiet c (plain_answer n) _ (after-refused (asks c) (plain_answer n) (is_occupied h) e f) refl
 
-  nothing-side : (c : Call) (a : Answer) → asks c ≡ nothing → Side (ev c a ∷ h) (occupied hub.translator.low) hub.configured
+  nothing_side : (c : Call) (a : Answer) → asks c ≡ nothing → Side (ev c a ∷ h) (occupied hub.translator.low) hub.configured
   unfolding occupied_after
-  nothing-side c a q = quiet c a _ (rw q) refl
+  nothing_side c a q = quiet c a _ (rw q) refl
 
   -- ---- deliver
 
-  deliver-side : (c : Call) (r : DeviceResult) (l : List ℕ) → asks c ≡ delivers r l
+  deliver_side : (c : Call) (r : DeviceResult) (l : List ℕ) → asks c ≡ delivers r l
       → Side (ev c (plain_answer (deliver_number (delivering.deliver hub.translator r l).answer)) ∷ h) (occupied (delivering.deliver hub.translator r l).next.low) hub.configured
   unfolding delivering.deliver occupied_after
-  deliver-side c r l q = go (result_length r (length l))
+  deliver_side c r l q = go (result_length r (length l))
     where
       t : Translator
       t = hub.translator
@@ -212,30 +212,30 @@ module _ (h : History) (hub : Hub) (side : SideOf h hub) where
       slot n (Ready s p) = none
       slot n (Old s p) = none
 
-      by-low : (x : LowSide) → Said (delivering.deliver_by t r l x)
-      by-low Idle = none
-      by-low (Running n) = slot n (at t.buffers n.0).slot
-      by-low Abandoned = freed c (plain_answer 0) hub.configured (rw q)
+      by_low : (x : LowSide) → Said (delivering.deliver_by t r l x)
+      by_low Idle = none
+      by_low (Running n) = slot n (at t.buffers n.0).slot
+      by_low Abandoned = freed c (plain_answer 0) hub.configured (rw q)
 
       go : (x : Bool) → Said (cond x (delivering.deliver_by t r l t.low) (delivering.undelivered t deliver.Outside))
-      go true = by-low t.low
+      go true = by_low t.low
       go false = refusal c 6 refl refl
 
   -- ---- control requests
 
-  by-request : (c : Call) (y : Lane) (r : Request) → AsksFor y r (asks c) → SideBy c (by_request hub y r)
+  by_request_lem : (c : Call) (y : Lane) (r : Request) → AsksFor y r (asks c) → SideBy c (by_request hub y r)
   unfolding configured_as occupied_after
-  by-request c y (Wrong f) q = refusal c 2 refl refl
-  by-request c y (SetConfiguration on) q = freed c (plain_answer 0) on (rw q)
-  by-request c y GetConfiguration q = nothing-side c _ q
-  by-request c y (GetHubDescriptor n) q = nothing-side c _ q
-  by-request c y GetHubStatus q = nothing-side c _ q
-  by-request c y (GetPortStatus n) q = nothing-side c _ q
-  by-request c y ClearHubFeature q = nothing-side c _ q
-  by-request c y (ClearPortFeature n f) q = nothing-side c _ q
-  by-request c y (SetPortFeature n f) q = nothing-side c _ q
-  by-request c y (ClearTTBuffer k) q = quiet c (plain_answer 0) _ (rw q) (clear-low hub.translator (keyed y k))
-  by-request c y ResetTT q = quiet c (plain_answer 0) _ (rw q) (reset-low hub.translator y)
+  by_request_lem c y (Wrong f) q = refusal c 2 refl refl
+  by_request_lem c y (SetConfiguration on) q = freed c (plain_answer 0) on (rw q)
+  by_request_lem c y GetConfiguration q = nothing_side c _ q
+  by_request_lem c y (GetHubDescriptor n) q = nothing_side c _ q
+  by_request_lem c y GetHubStatus q = nothing_side c _ q
+  by_request_lem c y (GetPortStatus n) q = nothing_side c _ q
+  by_request_lem c y ClearHubFeature q = nothing_side c _ q
+  by_request_lem c y (ClearPortFeature n f) q = nothing_side c _ q
+  by_request_lem c y (SetPortFeature n f) q = nothing_side c _ q
+  by_request_lem c y (ClearTTBuffer k) q = quiet c (plain_answer 0) _ (rw q) (clear_low hub.translator (keyed y k))
+  by_request_lem c y ResetTT q = quiet c (plain_answer 0) _ (rw q) (reset_low hub.translator y)
 
   control : (z : ℕ) (s : List ℕ) (room : ℕ) → SideBy (Control z s room) (requested hub (lane_from z) (request_of hub.identity.ports s))
   unfolding requested
@@ -245,7 +245,7 @@ module _ (h : History) (hub : Hub) (side : SideOf h hub) where
       r = request_of hub.identity.ports s
 
       go : (x : Bool) → SideBy (Control z s room) (cond x (by_request hub (lane_from z) r) (refuse 2 hub))
-      go true = by-request (Control z s room) (lane_from z) r (request-asks hub.identity.ports z s room)
+      go true = by_request_lem (Control z s room) (lane_from z) r (request_asks_lem hub.identity.ports z s room)
       go false = refusal (Control z s room) 2 refl refl
 
   -- ---- poll and tick
@@ -255,16 +255,16 @@ module _ (h : History) (hub : Hub) (side : SideOf h hub) where
   poll z room = go (eqb (bitmap_of hub.identity.ports hub.ports) 0)
     where
       go : (x : Bool) → SideBy (Poll z room) (cond x (refuse 3 hub) (gives hub (bitmap_of hub.identity.ports hub.ports ∷ [])))
-      go true = nothing-side (Poll z room) _ refl
-      go false = nothing-side (Poll z room) _ refl
+      go true = nothing_side (Poll z room) _ refl
+      go false = nothing_side (Poll z room) _ refl
 
   tick : SideBy Tick (done (ticked_hub hub))
   unfolding ticked_hub asks
   tick = go hub.configured refl
     where
       go : (x : Bool) → hub.configured ≡ x → SideBy Tick (done (cond x (with_ports hub (swept Tick' hub.identity.ports hub.ports)) hub))
-      go true e = nothing-side Tick _ refl
-      go false e = nothing-side Tick _ refl
+      go true e = nothing_side Tick _ refl
+      go false e = nothing_side Tick _ refl
 
   -- ---- launch
 
@@ -272,9 +272,9 @@ module _ (h : History) (hub : Hub) (side : SideOf h hub) where
   unfolding is_occupied occupied_after asks
   occupies room a e on = record { told = rw e; unconfigured = λ u. absurd (true≢false (sym on ∙ u)) }
 
-  launch-side : (room : ℕ) → SideBy (Launch room) (step hub (Launch room)) × EightIfOccupied (step hub (Launch room)).answer h
+  launch_side : (room : ℕ) → SideBy (Launch room) (step hub (Launch room)) × EightIfOccupied (step hub (Launch room)).answer h
   unfolding step within has_space not_silent fitting served launching.launch
-  launch-side room = go (leb 64 room) hub.configured refl hub.translator.low refl
+  launch_side room = go (leb 64 room) hub.configured refl hub.translator.low refl
     where
       t : Translator
       t = hub.translator
@@ -323,54 +323,54 @@ module _ (h : History) (hub : Hub) (side : SideOf h hub) where
   -- ---- one call
 
   checks : (c : Call) → SideBy c (served hub c) → SideBy c (step hub c)
-  checks c x = by-checks hub c (SideBy c) (refusal c 6 refl refl) (refusal c 7 refl refl) (refusal c 5 refl refl) (refusal c 8 refl refl) (λ w f. x)
+  checks c x = by_checks hub c (SideBy c) (refusal c 6 refl refl) (refusal c 7 refl refl) (refusal c 5 refl refl) (refusal c 8 refl refl) (λ w f. x)
 
-  pub step-side : (c : Call) → SideBy c (step hub c)
+  pub step_side : (c : Call) → SideBy c (step hub c)
   unfolding served asks occupied_after reset_hub
-  step-side (Control z s room) = checks (Control z s room) (control z s room)
-  step-side (Poll z room) = checks (Poll z room) (poll z room)
-  step-side (Start z p t f g a e l) =
-      checks (Start z p t f g a e l) (quiet (Start z p t f g a e l) _ _ refl (ap occupied (start-low hub.translator (split_from z p t f g a e) l)))
-  step-side (Complete z a e d room) =
+  step_side (Control z s room) = checks (Control z s room) (control z s room)
+  step_side (Poll z room) = checks (Poll z room) (poll z room)
+  step_side (Start z p t f g a e l) =
+      checks (Start z p t f g a e l) (quiet (Start z p t f g a e l) _ _ refl (ap occupied (start_low hub.translator (split_from z p t f g a e) l)))
+  step_side (Complete z a e d room) =
       let o = complete_split hub.translator (key_from z a e d) in
       let next = with_translator hub o.next in
       checks (Complete z a e d room)
       (subst (λ (u : Hub). SideOf (ev (Complete z a e d room) (completed_by next o.answer o.payload).answer ∷ h) u) (sym (completed-next next o.answer o.payload))
-      (quiet (Complete z a e d room) _ _ refl (ap occupied (complete-low hub.translator (key_from z a e d)))))
-  step-side (Launch room) = (launch-side room).0
-  step-side (Deliver r l) = checks (Deliver r l) (deliver-side (Deliver r l) (result_from r) l refl)
-  step-side (Line' e n) = checks (Line' e n) (nothing-side (Line' e n) _ refl)
-  step-side Tick = checks Tick tick
-  step-side BusReset = checks BusReset (freed BusReset (plain_answer 0) false refl)
+      (quiet (Complete z a e d room) _ _ refl (ap occupied (complete_low hub.translator (key_from z a e d)))))
+  step_side (Launch room) = (launch_side room).0
+  step_side (Deliver r l) = checks (Deliver r l) (deliver_side (Deliver r l) (result_from r) l refl)
+  step_side (Line' e n) = checks (Line' e n) (nothing_side (Line' e n) _ refl)
+  step_side Tick = checks Tick tick
+  step_side BusReset = checks BusReset (freed BusReset (plain_answer 0) false refl)
 
   -- ---- 8, of a launch
 
-  request-eight : (y : Lane) (k : Kind) (v : ℕ) (a : Answer) → OfLaunch (EightIfOccupied a h) (request_asks y k v)
-  request-eight y kind.Unknown v a = tt
-  request-eight y kind.SetConfiguration v a = tt
-  request-eight y kind.GetConfiguration v a = tt
-  request-eight y kind.GetHubDescriptor v a = tt
-  request-eight y kind.GetHubStatus v a = tt
-  request-eight y kind.GetPortStatus v a = tt
-  request-eight y kind.ClearHubFeature v a = tt
-  request-eight y kind.ClearPortFeature v a = tt
-  request-eight y kind.SetPortFeature v a = tt
-  request-eight y kind.ClearTTBuffer v a = tt
-  request-eight y kind.ResetTT v a = tt
+  request_eight : (y : Lane) (k : Kind) (v : ℕ) (a : Answer) → OfLaunch (EightIfOccupied a h) (request_asks y k v)
+  request_eight y kind.Unknown v a = tt
+  request_eight y kind.SetConfiguration v a = tt
+  request_eight y kind.GetConfiguration v a = tt
+  request_eight y kind.GetHubDescriptor v a = tt
+  request_eight y kind.GetHubStatus v a = tt
+  request_eight y kind.GetPortStatus v a = tt
+  request_eight y kind.ClearHubFeature v a = tt
+  request_eight y kind.ClearPortFeature v a = tt
+  request_eight y kind.SetPortFeature v a = tt
+  request_eight y kind.ClearTTBuffer v a = tt
+  request_eight y kind.ResetTT v a = tt
 
-  pub step-eight : (c : Call) → OfLaunch (EightIfOccupied (step hub c).answer h) (asks c)
+  pub step_eight : (c : Call) → OfLaunch (EightIfOccupied (step hub c).answer h) (asks c)
   unfolding asks
-  step-eight (Control z s room) = request-eight (lane_from z) (kind_of (setup_of s).requesttype (setup_of s).code) (setup_of s).value (step hub (Control z s room)).answer
-  step-eight (Poll z room) = tt
-  step-eight (Start z p t f g a e l) = tt
-  step-eight (Complete z a e d room) = tt
-  step-eight (Launch room) = (launch-side room).1
-  step-eight (Deliver r l) = tt
-  step-eight (Line' e n) = tt
-  step-eight Tick = tt
-  step-eight BusReset = tt
+  step_eight (Control z s room) = request_eight (lane_from z) (kind_of (setup_of s).requesttype (setup_of s).code) (setup_of s).value (step hub (Control z s room)).answer
+  step_eight (Poll z room) = tt
+  step_eight (Start z p t f g a e l) = tt
+  step_eight (Complete z a e d room) = tt
+  step_eight (Launch room) = (launch_side room).1
+  step_eight (Deliver r l) = tt
+  step_eight (Line' e n) = tt
+  step_eight Tick = tt
+  step_eight BusReset = tt
 
 -- a new hub's low side is idle
-pub new-side : (n : Numbers) → SideOf [] (new_hub_of n)
+pub new_side : (n : Numbers) → SideOf [] (new_hub_of n)
 unfolding is_occupied
-new-side n = record { told = refl; unconfigured = λ u. refl }
+new_side n = record { told = refl; unconfigured = λ u. refl }

@@ -30,12 +30,12 @@ use Rattle.runs.specs.Order.{pending_after, is_pending_at, occupied_after, is_oc
 use Rattle.runs.specs.Machine.{run_from, ruled}
 use Rattle.runs.specs.Altered.{altered}
 use Rattle.runs.specs.OrderMistakes.{first_alone, answered_as, inverted_toggle, occupied_if_none, redirected_step, always_out, two_for_out, clear_frees, OrderMistakesShutOut}
-use Rattle.runs.proofs.Refuted.{bench, configure, in-to, clear-5}
+use Rattle.runs.proofs.Refuted.{bench, configure, in_to, clear_5}
 
 -- device 6 is pending in buffer 1
 first : ¬ (LaunchOrder (altered first_alone))
 unfolding bench new_fits run_from AllOrdered pending_after is_pending_at occupied_after is_occupied call_at padded payload_of same_key numbers_fit start_fits result_length front swept find chosen permitted pass tally ranked earliest stored start_split launching.launch delivering.deliver split_named split_from kind_of asked request_of configured_as requested within has_space not_silent fitting served asks open_after is_open stores last_stored for_after last_for
-first claim = true≢false ((claim bench (configure ∷ in-to 5 ∷ in-to 6 ∷ Launch 64 ∷ Deliver 3 (9 ∷ []) ∷ Launch 64 ∷ [])).1.1.1.1.1.0.1 refl 2)
+first claim = true≢false ((claim bench (configure ∷ in_to 5 ∷ in_to 6 ∷ Launch 64 ∷ Deliver 3 (9 ∷ []) ∷ Launch 64 ∷ [])).1.1.1.1.1.0.1 refl 2)
 
 -- the toggle of a start-split
 toggle : Option Call → ℕ
@@ -63,7 +63,7 @@ early {a} {h} e l x y = sym (ap toggle e.gives) ∙ go e.place l
 toggled : ¬ (LaunchOrder (altered (answered_as inverted_toggle)))
 unfolding toggle bench new_fits run_from AllOrdered pending_after is_pending_at occupied_after is_occupied call_at padded payload_of same_key numbers_fit start_fits result_length front swept find chosen permitted pass tally ranked earliest stored start_split launching.launch delivering.deliver split_named split_from kind_of asked request_of configured_as requested within has_space not_silent fitting served asks open_after is_open stores last_stored for_after last_for
 toggled claim =
-    let e = (claim bench (configure ∷ in-to 5 ∷ Launch 64 ∷ [])).1.1.0.0 refl in
+    let e = (claim bench (configure ∷ in_to 5 ∷ Launch 64 ∷ [])).1.1.0.0 refl in
     let z : ◌≡◌ {A = ℕ} 1 0 = early e (e.earliest 1 refl) refl refl in
     omega (arith, z)
 
@@ -71,7 +71,7 @@ toggled claim =
 out : ¬ (LaunchOrder (ruled (redirected_step always_out)))
 unfolding bench new_fits run_from AllOrdered pending_after is_pending_at occupied_after is_occupied call_at padded payload_of same_key numbers_fit start_fits result_length front swept find chosen permitted pass tally ranked earliest stored start_split launching.launch delivering.deliver split_named split_from kind_of asked request_of configured_as requested within has_space not_silent fitting served step asks open_after is_open stores last_stored for_after last_for
 out claim =
-    let z : ◌≡◌ {A = ℕ} 0 1 = ((claim bench (configure ∷ in-to 5 ∷ Launch 64 ∷ [])).1.1.0.0 refl).directed.0 refl in
+    let z : ◌≡◌ {A = ℕ} 0 1 = ((claim bench (configure ∷ in_to 5 ∷ Launch 64 ∷ [])).1.1.0.0 refl).directed.0 refl in
     omega (arith, z)
 
 -- an OUT
@@ -85,7 +85,7 @@ two claim =
 clear : ¬ (LaunchOrder (altered clear_frees))
 unfolding bench new_fits run_from AllOrdered pending_after is_pending_at occupied_after is_occupied call_at padded payload_of same_key numbers_fit start_fits result_length front swept find chosen permitted pass tally ranked earliest stored start_split launching.launch delivering.deliver clear_buffer split_named split_from kind_of asked request_of configured_as requested within has_space not_silent fitting served asks open_after is_open stores last_stored for_after last_for
 clear claim =
-    let z : ◌≡◌ {A = ℕ} 1 8 = ((claim bench (configure ∷ in-to 5 ∷ in-to 6 ∷ Launch 64 ∷ clear-5 ∷ Launch 64 ∷ [])).1.1.1.1.1.0.2 (λ e. omega (arith, e))).1 refl in
+    let z : ◌≡◌ {A = ℕ} 1 8 = ((claim bench (configure ∷ in_to 5 ∷ in_to 6 ∷ Launch 64 ∷ clear_5 ∷ Launch 64 ∷ [])).1.1.1.1.1.0.2 (λ e. omega (arith, e))).1 refl in
     omega (arith, z)
 
 -- nothing runs
@@ -93,6 +93,6 @@ eight : ¬ (LaunchOrder (altered (answered_as occupied_if_none)))
 unfolding bench new_fits run_from AllOrdered pending_after is_pending_at occupied_after is_occupied call_at padded payload_of same_key numbers_fit start_fits result_length front swept find chosen permitted pass tally ranked earliest stored start_split launching.launch delivering.deliver split_named split_from kind_of asked request_of configured_as requested within has_space not_silent fitting served asks open_after is_open stores last_stored for_after last_for
 eight claim = false≢true (((claim bench (configure ∷ Launch 64 ∷ [])).1.0.2 (λ e. omega (arith, e))).0 refl)
 
-pub order-mistakes-shut-out : OrderMistakesShutOut
-order-mistakes-shut-out =
-    record { first_alone_lem = first; toggle-inverted = toggled; always-out = out; two-for-out = two; clear-frees = clear; eight-idle = eight }
+pub order_mistakes_shut_out_lem : OrderMistakesShutOut
+order_mistakes_shut_out_lem =
+    record { first_alone_lem = first; toggle_inverted = toggled; always_out_lem = out; two_for_out_lem = two; clear_frees_lem = clear; eight_idle = eight }

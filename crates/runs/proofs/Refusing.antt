@@ -10,10 +10,10 @@ use lib.Dec.{eqb, leb, ltb}
 use lib.ListN.{length, take}
 use Rattle.port.specs.Events.{line_event}
 use Rattle.port.specs.Words.{NamedIn}
-use Rattle.port.proofs.Claimed.{port-claims}
+use Rattle.port.proofs.Claimed.{port_claims_lem}
 use Rattle.ports.specs.Ports.{port_at}
 use Rattle.ports.specs.Bitmap.{bitmap_of}
-use Rattle.ports.proofs.Laws.{ports-claims}
+use Rattle.ports.proofs.Laws.{ports_claims_lem}
 use Rattle.buffer.specs.declared.Lane.{Lane}
 use Rattle.buffer.specs.declared.Key.{Key}
 use Rattle.buffer.specs.declared.StartSplit.{StartSplit}
@@ -48,9 +48,9 @@ use Rattle.translator.specs.CompleteSplit.{completed, complete_at, complete_spli
 use Rattle.translator.specs.Launch.{launched, launch_at, launch_by, launch}
 use Rattle.translator.specs.Deliver.{delivered, deliver_by, deliver, undelivered}
 use Rattle.translator.specs.Answers.{is_refusal, launch_number, deliver_number, result_number}
-use Rattle.translator.proofs.Finding.{Hit, Miss, FindSays, find-says, may-store, may-not-store, PermittedSays, permitted-says}
-use Rattle.translator.proofs.Kept.{in_use, no-repeat}
-use Rattle.translator.proofs.Calls.{LaunchedAs, launched-as, refused-same}
+use Rattle.translator.proofs.Finding.{Hit, Miss, FindSays, find_says, may_store_lem, may_not_store, PermittedSays, permitted_says}
+use Rattle.translator.proofs.Kept.{in_use, no_repeat}
+use Rattle.translator.proofs.Calls.{LaunchedAs, launched_as_lem, refused_same}
 use Rattle.numbers.specs.Named.{lane_from, is_result, result_from, event_from}
 use Rattle.numbers.specs.Split.{split_named, split_from, key_from}
 use Rattle.request.specs.declared.Request.{Request}
@@ -66,8 +66,8 @@ use Rattle.hub.specs.Step as rule
 use Rattle.hub.specs.Checks.{within, has_space, not_silent, fitting, first_refusal}
 use Rattle.hub.specs.Step.{step}
 use Rattle.runs.specs.Refusals.{Refusal, outside, short, silent, misplaced, stall, nak, nyet, number_of, rank, Silent, Occupied, Unsuited, Untaken, Misplaced, IsWrong, Stalled, NothingToGive, NotYet, Applies, Due, Serves, Refusals}
-use Rattle.hub.proofs.Tells.{Tells, not-told, passes, both-tell}
-use Rattle.runs.proofs.Outside.{outside-tells, short-tells}
+use Rattle.hub.proofs.Tells.{Tells, not-told, passes, both_tell}
+use Rattle.runs.proofs.Outside.{outside_tells, short_tells}
 
 -- ---- no two refusals have one number, or one rank
 
@@ -75,47 +75,47 @@ by_number : ℕ → Refusal
 by_number n =
     cond (eqb n 6) outside (cond (eqb n 7) short (cond (eqb n 5) silent (cond (eqb n 8) misplaced (cond (eqb n 2) stall (cond (eqb n 3) nak nyet)))))
 
-number-back : (r : Refusal) → by_number (number_of r) ≡ r
+number_back : (r : Refusal) → by_number (number_of r) ≡ r
 unfolding by_number
-number-back outside = refl
-number-back short = refl
-number-back silent = refl
-number-back misplaced = refl
-number-back stall = refl
-number-back nak = refl
-number-back nyet = refl
+number_back outside = refl
+number_back short = refl
+number_back silent = refl
+number_back misplaced = refl
+number_back stall = refl
+number_back nak = refl
+number_back nyet = refl
 
 one_number : (r q : Refusal) → number_of r ≡ number_of q → r ≡ q
-one_number r q e = sym (number-back r) ∙ ap by_number e ∙ number-back q
+one_number r q e = sym (number_back r) ∙ ap by_number e ∙ number_back q
 
 by_rank : ℕ → Refusal
 by_rank n =
     cond (eqb n 0) outside (cond (eqb n 1) short (cond (eqb n 2) silent (cond (eqb n 3) misplaced (cond (eqb n 4) stall (cond (eqb n 5) nak nyet)))))
 
-rank-back : (r : Refusal) → by_rank (rank r) ≡ r
+rank_back : (r : Refusal) → by_rank (rank r) ≡ r
 unfolding by_rank
-rank-back outside = refl
-rank-back short = refl
-rank-back silent = refl
-rank-back misplaced = refl
-rank-back stall = refl
-rank-back nak = refl
-rank-back nyet = refl
+rank_back outside = refl
+rank_back short = refl
+rank_back silent = refl
+rank_back misplaced = refl
+rank_back stall = refl
+rank_back nak = refl
+rank_back nyet = refl
 
 one_rank : (r q : Refusal) → rank r ≡ rank q → r ≡ q
-one_rank r q e = sym (rank-back r) ∙ ap by_rank e ∙ rank-back q
+one_rank r q e = sym (rank_back r) ∙ ap by_rank e ∙ rank_back q
 
-rank-small : (r : Refusal) → rank r < 7
-rank-small outside = omega arith
-rank-small short = omega arith
-rank-small silent = omega arith
-rank-small misplaced = omega arith
-rank-small stall = omega arith
-rank-small nak = omega arith
-rank-small nyet = omega arith
+rank_small : (r : Refusal) → rank r < 7
+rank_small outside = omega arith
+rank_small short = omega arith
+rank_small silent = omega arith
+rank_small misplaced = omega arith
+rank_small stall = omega arith
+rank_small nak = omega arith
+rank_small nyet = omega arith
 
-one-due : (r q : Refusal) (h : Hub) (c : Call) → Due r h c → Due q h c → r ≡ q
-one-due r q h c d e = go (ltb (rank r) (rank q)) refl (ltb (rank q) (rank r)) refl
+one_due : (r q : Refusal) (h : Hub) (c : Call) → Due r h c → Due q h c → r ≡ q
+one_due r q h c d e = go (ltb (rank r) (rank q)) refl (ltb (rank q) (rank r)) refl
   where
     go : (x : Bool) → ltb (rank r) (rank q) ≡ x → (y : Bool) → ltb (rank q) (rank r) ≡ y → r ≡ q
     go true f y g = absurd (e.none_before r (ltb-true (rank r) (rank q) f) d.applies)
@@ -127,22 +127,22 @@ one-due r q h c d e = go (ltb (rank r) (rank q)) refl (ltb (rank q) (rank r)) re
 
 -- ---- the number of a call that is served is none of theirs
 
-pub number-refuses : (r : Refusal) → is_refusal (number_of r) ≡ true
-number-refuses outside = refl
-number-refuses short = refl
-number-refuses silent = refl
-number-refuses misplaced = refl
-number-refuses stall = refl
-number-refuses nak = refl
-number-refuses nyet = refl
+pub number_refuses : (r : Refusal) → is_refusal (number_of r) ≡ true
+number_refuses outside = refl
+number_refuses short = refl
+number_refuses silent = refl
+number_refuses misplaced = refl
+number_refuses stall = refl
+number_refuses nak = refl
+number_refuses nyet = refl
 
-serves-not : (n : ℕ) → Serves n → is_refusal n ≡ false
-serves-not n (inl e) = ap is_refusal e
-serves-not n (inr (inl e)) = ap is_refusal e
-serves-not n (inr (inr e)) = ap is_refusal e
+serves_not : (n : ℕ) → Serves n → is_refusal n ≡ false
+serves_not n (inl e) = ap is_refusal e
+serves_not n (inr (inl e)) = ap is_refusal e
+serves_not n (inr (inr e)) = ap is_refusal e
 
-not-both : (n : ℕ) (r : Refusal) → Serves n → ¬ (n ≡ number_of r)
-not-both n r s e = true≢false (sym (ap is_refusal e ∙ number-refuses r) ∙ serves-not n s)
+not_both : (n : ℕ) (r : Refusal) → Serves n → ¬ (n ≡ number_of r)
+not_both n r s e = true≢false (sym (ap is_refusal e ∙ number_refuses r) ∙ serves_not n s)
 
 -- ---- what becomes of a call
 
@@ -155,9 +155,9 @@ module _ (h : Hub) (c : Call) where
   Past : ℕ → Type 0
   Past n = (q : Refusal) → rank q < n → ¬ (Applies q h c)
 
-  past-none : Past 0
+  past_none : Past 0
   unfolding Past
-  past-none q l = absurd (omega arith)
+  past_none q l = absurd (omega arith)
 
   past : (r : Refusal) → Past (rank r) → ¬ (Applies r h c) → Past (suc (rank r))
   unfolding Past
@@ -169,54 +169,54 @@ module _ (h : Hub) (c : Call) where
           let m : rank r ≤ rank q = ltb-false (rank q) (rank r) e in
           subst (λ (x : Refusal). ¬ (Applies x h c)) (one_rank r q (omega (arith, m, l))) f
 
-  is-due : (r : Refusal) → Past (rank r) → Applies r h c → {o : Outcome} → o ≡ refuse (number_of r) h → Verdict h c o
+  is_due : (r : Refusal) → Past (rank r) → Applies r h c → {o : Outcome} → o ≡ refuse (number_of r) h → Verdict h c o
   unfolding Past
-  is-due r p a e = refused r e (record { applies = a; none_before = p })
+  is_due r p a e = refused r e (record { applies = a; none_before = p })
 
   -- the refusals of the call's own rule, after 6, 7, 5 and 8
   module _ (p : Past 4) where
-    at-2 : Stalled h c → {o : Outcome} → o ≡ refuse 2 h → Verdict h c o
-    at-2 = is-due stall p
+    at_2 : Stalled h c → {o : Outcome} → o ≡ refuse 2 h → Verdict h c o
+    at_2 = is_due stall p
 
     module _ (p2 : ¬ (Stalled h c)) where
-      at-3 : NothingToGive h c → {o : Outcome} → o ≡ refuse 3 h → Verdict h c o
-      at-3 = is-due nak (past stall p p2)
+      at_3 : NothingToGive h c → {o : Outcome} → o ≡ refuse 3 h → Verdict h c o
+      at_3 = is_due nak (past stall p p2)
 
       module _ (p3 : ¬ (NothingToGive h c)) where
-        at-4 : NotYet h c → {o : Outcome} → o ≡ refuse 4 h → Verdict h c o
-        at-4 = is-due nyet (past nak (past stall p p2) p3)
+        at_4 : NotYet h c → {o : Outcome} → o ≡ refuse 4 h → Verdict h c o
+        at_4 = is_due nyet (past nak (past stall p p2) p3)
 
         at_last : ¬ (NotYet h c) → {o : Outcome} → Serves o.answer.number → Verdict h c o
         unfolding Past
-        at_last p4 s = served s (λ q. past nyet (past nak (past stall p p2) p3) p4 q (rank-small q))
+        at_last p4 s = served s (λ q. past nyet (past nak (past stall p p2) p3) p4 q (rank_small q))
 
 never : ¬ ⊥
 never x = x
 
 -- ---- 5 and 8: the tests of the rules say whether they apply
 
-configured-tells : (h : Hub) → Tells h.configured (h.configured ≡ false)
-configured-tells h = (λ e. e, λ e. e)
+configured_tells : (h : Hub) → Tells h.configured (h.configured ≡ false)
+configured_tells h = (λ e. e, λ e. e)
 
-silent-tells : (h : Hub) (c : Call) → Tells (not_silent h c) (Silent h c)
+silent_tells : (h : Hub) (c : Call) → Tells (not_silent h c) (Silent h c)
 unfolding not_silent
-silent-tells h (Control z s room) = passes
-silent-tells h (Poll z room) = configured-tells h
-silent-tells h (Start z p t f g a e l) = configured-tells h
-silent-tells h (Complete z a e d room) = configured-tells h
-silent-tells h (Launch room) = configured-tells h
-silent-tells h (Deliver r l) = configured-tells h
-silent-tells h (Event e n) = passes
-silent-tells h Tick = passes
-silent-tells h BusReset = passes
+silent_tells h (Control z s room) = passes
+silent_tells h (Poll z room) = configured_tells h
+silent_tells h (Start z p t f g a e l) = configured_tells h
+silent_tells h (Complete z a e d room) = configured_tells h
+silent_tells h (Launch room) = configured_tells h
+silent_tells h (Deliver r l) = configured_tells h
+silent_tells h (Event e n) = passes
+silent_tells h Tick = passes
+silent_tells h BusReset = passes
 
 -- a launch that was answered so
 abbrev LaunchTells : Launched → Type 0 → Type 0
 LaunchTells o A = Tells (not (eqb (launch_number o.answer) 8)) A
 
-launch-tells : (t : Translator) → LaunchTells (launch t) (Occupied t.low)
+launch_tells : (t : Translator) → LaunchTells (launch t) (Occupied t.low)
 unfolding launch
-launch-tells t = go t.low
+launch_tells t = go t.low
   where
     slot : (n : BufferNumber) (s : Slot) → LaunchTells (launched t n (at t.buffers n.0).payload s) ⊥
     slot n Empty = passes
@@ -237,10 +237,10 @@ launch-tells t = go t.low
 abbrev DeliverTells : Delivered → Type 0 → Type 0
 DeliverTells o A = ((deliver_number o.answer ≡ 8) × A) ⊎ ((deliver_number o.answer ≡ 0) × (¬ A))
 
-deliver-tells : (h : Hub) (r : DeviceResult) (l : List ℕ) → result_length r (length l) ≡ true
+deliver_tells : (h : Hub) (r : DeviceResult) (l : List ℕ) → result_length r (length l) ≡ true
     → DeliverTells (deliver h.translator r l) (Untaken h r h.translator.low)
 unfolding deliver
-deliver-tells h r l fits = rw fits (go h.translator.low)
+deliver_tells h r l fits = rw fits (go h.translator.low)
   where
     t : Translator
     t = h.translator
@@ -265,68 +265,68 @@ deliver-tells h r l fits = rw fits (go h.translator.low)
 abbrev Unnamed : Hub → ℕ → ℕ → Type 0
 Unnamed h e n = ¬ (NamedIn (event_from e) (port_at h.ports (record { 0 = n })).state)
 
-event-number : Hub → ℕ → ℕ → ℕ
-event-number h e n = (line_event (port_at h.ports (record { 0 = n })) (event_from e)).number
+event_number_lem : Hub → ℕ → ℕ → ℕ
+event_number_lem h e n = (line_event (port_at h.ports (record { 0 = n })) (event_from e)).number
 
-refused-unnamed : (h : Hub) (e n : ℕ) → event-number h e n ≡ 8 → Unnamed h e n
-unfolding event-number
-refused-unnamed h e n z u =
-    let y : event-number h e n ≡ 0 = (port-claims.event-done (port_at h.ports (record { 0 = n })) (event_from e)).1 u in omega (arith, y, z)
+refused_unnamed : (h : Hub) (e n : ℕ) → event_number_lem h e n ≡ 8 → Unnamed h e n
+unfolding event_number_lem
+refused_unnamed h e n z u =
+    let y : event_number_lem h e n ≡ 0 = (port_claims_lem.event_done (port_at h.ports (record { 0 = n })) (event_from e)).1 u in omega (arith, y, z)
 
-event-tells : (h : Hub) (e n : ℕ) → Tells (fitting h (Event e n)) (Misplaced h (Event e n))
-unfolding fitting event-number
-event-tells h e n =
-    both-tell h.configured (not (eqb (event-number h e n) 8)) (configured-tells h)
-    (λ _. by (port-claims.event-answers (port_at h.ports (record { 0 = n })) (event_from e)))
+event_tells : (h : Hub) (e n : ℕ) → Tells (fitting h (Event e n)) (Misplaced h (Event e n))
+unfolding fitting event_number_lem
+event_tells h e n =
+    both_tell h.configured (not (eqb (event_number_lem h e n) 8)) (configured_tells h)
+    (λ _. by (port_claims_lem.event_answers (port_at h.ports (record { 0 = n })) (event_from e)))
   where
     At : ℕ → Type 0
     At k = Tells (not (eqb k 8)) (Unnamed h e n)
 
-    by : (event-number h e n ≡ 0) ⊎ (event-number h e n ≡ 8) → At (event-number h e n)
+    by : (event_number_lem h e n ≡ 0) ⊎ (event_number_lem h e n ≡ 8) → At (event_number_lem h e n)
     by (inl z) =
-        subst At (sym z) (λ f. absurd (true≢false f), λ u. absurd (u ((port-claims.event-done (port_at h.ports (record { 0 = n })) (event_from e)).0 z)))
-    by (inr z) = subst At (sym z) (λ f. refused-unnamed h e n z, λ u. refl)
+        subst At (sym z) (λ f. absurd (true≢false f), λ u. absurd (u ((port_claims_lem.event_done (port_at h.ports (record { 0 = n })) (event_from e)).0 z)))
+    by (inr z) = subst At (sym z) (λ f. refused_unnamed h e n z, λ u. refl)
 
 result_fits : (h : Hub) (r : ℕ) (l : List ℕ) → within h (Deliver r l) ≡ true → result_length (result_from r) (length l) ≡ true
 unfolding within
 result_fits h r l w = ((and-eq-true_iff (is_result r) (result_length (result_from r) (length l))).0 w).1
 
-misplaced-tells : (h : Hub) (c : Call) → within h c ≡ true → Tells (fitting h c) (Misplaced h c)
+misplaced_tells : (h : Hub) (c : Call) → within h c ≡ true → Tells (fitting h c) (Misplaced h c)
 unfolding fitting
-misplaced-tells h (Control z s room) w = passes
-misplaced-tells h (Poll z room) w = passes
-misplaced-tells h (Start z p t f g a e l) w = passes
-misplaced-tells h (Complete z a e d room) w = passes
-misplaced-tells h (Launch room) w = launch-tells h.translator
-misplaced-tells h (Deliver r l) w = go (deliver-tells h (result_from r) l (result_fits h r l w))
+misplaced_tells h (Control z s room) w = passes
+misplaced_tells h (Poll z room) w = passes
+misplaced_tells h (Start z p t f g a e l) w = passes
+misplaced_tells h (Complete z a e d room) w = passes
+misplaced_tells h (Launch room) w = launch_tells h.translator
+misplaced_tells h (Deliver r l) w = go (deliver_tells h (result_from r) l (result_fits h r l w))
   where
     go : DeliverTells (deliver h.translator (result_from r) l) (Untaken h (result_from r) h.translator.low)
         → Tells (not (eqb (deliver_number (deliver h.translator (result_from r) l).answer) 8)) (Untaken h (result_from r) h.translator.low)
     go (inl x) = rw x.0 (λ f. x.1, λ u. refl)
     go (inr x) = rw x.0 (λ f. absurd (true≢false f), λ u. absurd (x.1 u))
-misplaced-tells h (Event e n) w = event-tells h e n
-misplaced-tells h Tick w = passes
-misplaced-tells h BusReset w = passes
+misplaced_tells h (Event e n) w = event_tells h e n
+misplaced_tells h Tick w = passes
+misplaced_tells h BusReset w = passes
 
 -- ---- the call's own rule
 
 -- a request is wrong, or it is served
-request-served : (h : Hub) (y : Lane) (q : Request) → IsWrong q ⊎ Serves (by_request h y q).answer.number
-request-served h y (Wrong f) = inl (f, refl)
-request-served h y (SetConfiguration on) = inr (inl refl)
-request-served h y GetConfiguration = inr (inr (inl refl))
-request-served h y (GetHubDescriptor n) = inr (inr (inl refl))
-request-served h y GetHubStatus = inr (inr (inl refl))
-request-served h y (GetPortStatus n) = inr (inr (inl refl))
-request-served h y ClearHubFeature = inr (inl refl)
-request-served h y (ClearPortFeature n f) = inr (inl refl)
-request-served h y (SetPortFeature n f) = inr (inl refl)
-request-served h y (ClearTTBuffer k) = inr (inl refl)
-request-served h y ResetTT = inr (inl refl)
+request_served : (h : Hub) (y : Lane) (q : Request) → IsWrong q ⊎ Serves (by_request h y q).answer.number
+request_served h y (Wrong f) = inl (f, refl)
+request_served h y (SetConfiguration on) = inr (inl refl)
+request_served h y GetConfiguration = inr (inr (inl refl))
+request_served h y (GetHubDescriptor n) = inr (inr (inl refl))
+request_served h y GetHubStatus = inr (inr (inl refl))
+request_served h y (GetPortStatus n) = inr (inr (inl refl))
+request_served h y ClearHubFeature = inr (inl refl)
+request_served h y (ClearPortFeature n f) = inr (inl refl)
+request_served h y (SetPortFeature n f) = inr (inl refl)
+request_served h y (ClearTTBuffer k) = inr (inl refl)
+request_served h y ResetTT = inr (inl refl)
 
-control-sorted : (h : Hub) (z : ℕ) (s : List ℕ) (room : ℕ) → Past h (Control z s room) 4 → Verdict h (Control z s room) (requested h (lane_from z) (request_of h.identity.ports s))
+control_sorted : (h : Hub) (z : ℕ) (s : List ℕ) (room : ℕ) → Past h (Control z s room) 4 → Verdict h (Control z s room) (requested h (lane_from z) (request_of h.identity.ports s))
 unfolding requested
-control-sorted h z s room p = go h.configured refl (served_always q) refl
+control_sorted h z s room p = go h.configured refl (served_always q) refl
   where
     c : Call
     c = Control z s room
@@ -335,17 +335,17 @@ control-sorted h z s room p = go h.configured refl (served_always q) refl
     q = request_of h.identity.ports s
 
     -- a request that is served is not wrong
-    not-wrong : Serves (by_request h (lane_from z) q).answer.number → ¬ (IsWrong q)
-    not-wrong v w = not-both (by_request h (lane_from z) q).answer.number stall v (ap (λ (x : Request). (by_request h (lane_from z) x).answer.number) w.1)
+    not_wrong : Serves (by_request h (lane_from z) q).answer.number → ¬ (IsWrong q)
+    not_wrong v w = not_both (by_request h (lane_from z) q).answer.number stall v (ap (λ (x : Request). (by_request h (lane_from z) x).answer.number) w.1)
 
     by : ¬ ((h.configured ≡ false) × (served_always q ≡ false)) → IsWrong q ⊎ Serves (by_request h (lane_from z) q).answer.number → Verdict h c (by_request h (lane_from z) q)
-    by n (inl w) = at-2 h c p (inl w) (ap (by_request h (lane_from z)) w.1)
-    by n (inr v) = at_last h c p (⊎_elim (not-wrong v) n) never never v
+    by n (inl w) = at_2 h c p (inl w) (ap (by_request h (lane_from z)) w.1)
+    by n (inr v) = at_last h c p (⊎_elim (not_wrong v) n) never never v
 
     go : (x : Bool) → h.configured ≡ x → (y : Bool) → served_always q ≡ y → Verdict h c (cond (x || y) (by_request h (lane_from z) q) (refuse 2 h))
-    go true e y f = by (λ n. true≢false (sym e ∙ n.0)) (request-served h (lane_from z) q)
-    go false e true f = by (λ n. true≢false (sym f ∙ n.1)) (request-served h (lane_from z) q)
-    go false e false f = at-2 h c p (inr (e, f)) refl
+    go true e y f = by (λ n. true≢false (sym e ∙ n.0)) (request_served h (lane_from z) q)
+    go false e true f = by (λ n. true≢false (sym f ∙ n.1)) (request_served h (lane_from z) q)
+    go false e false f = at_2 h c p (inr (e, f)) refl
 
 -- the second of four tests that all hold
 second : (a b c d : Bool) → ((a && b) && c) && d ≡ true → b ≡ true
@@ -355,40 +355,40 @@ module _ (h : Hub) (valid : ValidHub h) where
   abbrev t : Translator
   t = h.translator
 
-  most-ports : h.identity.ports ≤ 7
+  most_ports : h.identity.ports ≤ 7
   unfolding new_fits
-  most-ports = leb-true h.identity.ports 7 (second (leb 1 h.identity.ports) (leb h.identity.ports 7) _ _ valid.numbers)
+  most_ports = leb-true h.identity.ports 7 (second (leb 1 h.identity.ports) (leb h.identity.ports 7) _ _ valid.numbers)
 
-  poll-sorted : (z room : ℕ) → Past h (Poll z room) 4 → Verdict h (Poll z room) (polled h)
+  poll_sorted : (z room : ℕ) → Past h (Poll z room) 4 → Verdict h (Poll z room) (polled h)
   unfolding polled
-  poll-sorted z room p = go (eqb b 0) refl
+  poll_sorted z room p = go (eqb b 0) refl
     where
       b : ℕ
       b = bitmap_of h.identity.ports h.ports
 
       go : (x : Bool) → eqb b 0 ≡ x → Verdict h (Poll z room) (cond x (refuse 3 h) (gives h (b ∷ [])))
-      go true e = at-3 h (Poll z room) p never ((ports-claims.bitmap-none h.identity.ports h.ports most-ports).0 (eqb-true b 0 e)) refl
+      go true e = at_3 h (Poll z room) p never ((ports_claims_lem.bitmap_none h.identity.ports h.ports most_ports).0 (eqb-true b 0 e)) refl
       go false e =
           at_last h (Poll z room) p never
-          (λ u. eqb-false b 0 e ((ports-claims.bitmap-none h.identity.ports h.ports most-ports).1 u)) never (inr (inl refl))
+          (λ u. eqb-false b 0 e ((ports_claims_lem.bitmap_none h.identity.ports h.ports most_ports).1 u)) never (inr (inl refl))
 
   -- what none of the buffers in use passes
-  none-in-use : (f : Slot → Bool) → Miss f t.count t.buffers → (i : ℕ) → i < t.count → f (at t.buffers i).slot ≡ false
-  none-in-use f m i l = m i l (omega (arith, l, valid.translator.most, valid.translator.four))
+  none_in_use : (f : Slot → Bool) → Miss f t.count t.buffers → (i : ℕ) → i < t.count → f (at t.buffers i).slot ≡ false
+  none_in_use f m i l = m i l (omega (arith, l, valid.translator.most, valid.translator.four))
 
   -- no buffer passes, where an empty one doesn't
   none_at_all : (f : Slot → Bool) → f Empty ≡ false → Miss f t.count t.buffers → (i : ℕ) → f (at t.buffers i).slot ≡ false
   none_at_all f e m i = go (f (at t.buffers i).slot) refl
     where
       go : (x : Bool) → f (at t.buffers i).slot ≡ x → x ≡ false
-      go true g = sym g ∙ none-in-use f m i (in_use t valid.translator f e i g)
+      go true g = sym g ∙ none_in_use f m i (in_use t valid.translator f e i g)
       go false g = refl
 
-  start-sorted : (z p ty f g a e : ℕ) (l : List ℕ) → within h (Start z p ty f g a e l) ≡ true → Past h (Start z p ty f g a e l) 4
+  start_sorted : (z p ty f g a e : ℕ) (l : List ℕ) → within h (Start z p ty f g a e l) ≡ true → Past h (Start z p ty f g a e l) 4
       → Verdict h (Start z p ty f g a e l) (started_as h (start_split h.translator (split_from z p ty f g a e) l))
   unfolding start_split within split_from
-  start-sorted z p ty f g a e l w past-8 =
-      rw fits (go (permitted t.count (key_of s) (take t.count t.buffers)) (permitted-says t.count (key_of s) t.count t.buffers))
+  start_sorted z p ty f g a e l w past-8 =
+      rw fits (go (permitted t.count (key_of s) (take t.count t.buffers)) (permitted_says t.count (key_of s) t.count t.buffers))
     where
       c : Call
       c = Start z p ty f g a e l
@@ -404,9 +404,9 @@ module _ (h : Hub) (valid : ValidHub h) where
 
       go : (x : Choice) → PermittedSays t.count (key_of s) t.count t.buffers x → Verdict h c (started_as h (start_by t s l x))
       go NoRoom r =
-          at-3 h c past-8 never
-          (no-repeat t valid.translator (key_of s) NoRoom r.says refl, inr (none-in-use (holds (key_of s)) r.says.none, none-in-use is_free r.says.free)) refl
-      go LimitReached r = at-3 h c past-8 never (no-repeat t valid.translator (key_of s) r.wanted r.says r.unheld, inl (full (may-not-store t s.lane r.full))) refl
+          at_3 h c past-8 never
+          (no_repeat t valid.translator (key_of s) NoRoom r.says refl, inr (none_in_use (holds (key_of s)) r.says.none, none_in_use is_free r.says.free)) refl
+      go LimitReached r = at_3 h c past-8 never (no_repeat t valid.translator (key_of s) r.wanted r.says r.unheld, inl (full (may_not_store t s.lane r.full))) refl
         where
           full : AtLimit s.lane t → AtLimit (lane_from z) t
           full u = u
@@ -415,18 +415,18 @@ module _ (h : Hub) (valid : ValidHub h) where
           (λ u. true≢false (sym r.active ∙ u.0 n.0 r.found.passes)) never (inl refl)
       go (Reused n) r =
           at_last h c past-8 never
-          (λ u. ⊎_elim (below (may-store t s.lane r.may)) (λ w. true≢false (sym r.says.found.passes ∙ w.0 n.0 r.says.found.small)) u.1) never (inl refl)
+          (λ u. ⊎_elim (below (may_store_lem t s.lane r.may)) (λ w. true≢false (sym r.says.found.passes ∙ w.0 n.0 r.says.found.small)) u.1) never (inl refl)
       go (Took n) r =
           at_last h c past-8 never
-          (λ u. ⊎_elim (below (may-store t s.lane r.may)) (λ w. true≢false (sym r.says.free.passes ∙ w.1 n.0 r.says.free.small)) u.1) never (inl refl)
+          (λ u. ⊎_elim (below (may_store_lem t s.lane r.may)) (λ w. true≢false (sym r.says.free.passes ∙ w.1 n.0 r.says.free.small)) u.1) never (inl refl)
 
-  result-serves : (r : DeviceResult) → Serves (result_number r)
-  result-serves result.Failure = inr (inr refl)
-  result-serves result.Ack = inr (inr refl)
-  result-serves result.Nak = inr (inr refl)
-  result-serves result.Stall = inr (inr refl)
-  result-serves result.Data0 = inr (inl refl)
-  result-serves result.Data1 = inr (inl refl)
+  result_serves : (r : DeviceResult) → Serves (result_number r)
+  result_serves result.Failure = inr (inr refl)
+  result_serves result.Ack = inr (inr refl)
+  result_serves result.Nak = inr (inr refl)
+  result_serves result.Stall = inr (inr refl)
+  result_serves result.Data0 = inr (inl refl)
+  result_serves result.Data1 = inr (inl refl)
 
   -- buffer n holds the key of a complete-split
   module _ (z a e d room : ℕ) (p : Past h (Complete z a e d room) 4) (n : BufferNumber) (r : Hit (holds (key_from z a e d)) t.count t.buffers n.0) where
@@ -434,83 +434,83 @@ module _ (h : Hub) (valid : ValidHub h) where
     matched u = true≢false (sym r.passes ∙ u n.0)
 
     -- no other does
-    not-early : is_pending (at t.buffers n.0).slot ≡ false → ¬ (NotYet h (Complete z a e d room))
-    not-early np u =
+    not_early : is_pending (at t.buffers n.0).slot ≡ false → ¬ (NotYet h (Complete z a e d room))
+    not_early np u =
         let same : u.number ≡ n.0 = valid.translator.keys (key_from z a e d) u.number n.0 u.held r.passes in
         true≢false (sym u.pending ∙ ap (λ (i : ℕ). is_pending (at t.buffers i).slot) same ∙ np)
 
-    complete-slot : (s : Slot) → (at t.buffers n.0).slot ≡ s
+    complete_slot : (s : Slot) → (at t.buffers n.0).slot ≡ s
         → Verdict h (Complete z a e d room) (completed_as h (completed t n (at t.buffers n.0).payload s))
-    complete-slot Empty f = absurd (false≢true (ap (holds (key_from z a e d)) (sym f) ∙ r.passes))
-    complete-slot (Pending s q) f =
-        at-4 h (Complete z a e d room) p matched never (record { number = n.0; held = r.passes; pending = ap is_pending f }) refl
-    complete-slot (Ready s q) f = at_last h (Complete z a e d room) p matched never (not-early (ap is_pending f)) (result-serves q)
-    complete-slot (Old s q) f = at_last h (Complete z a e d room) p matched never (not-early (ap is_pending f)) (result-serves q)
+    complete_slot Empty f = absurd (false≢true (ap (holds (key_from z a e d)) (sym f) ∙ r.passes))
+    complete_slot (Pending s q) f =
+        at_4 h (Complete z a e d room) p matched never (record { number = n.0; held = r.passes; pending = ap is_pending f }) refl
+    complete_slot (Ready s q) f = at_last h (Complete z a e d room) p matched never (not_early (ap is_pending f)) (result_serves q)
+    complete_slot (Old s q) f = at_last h (Complete z a e d room) p matched never (not_early (ap is_pending f)) (result_serves q)
 
-  complete-sorted : (z a e d room : ℕ) → Past h (Complete z a e d room) 4
+  complete_sorted : (z a e d room : ℕ) → Past h (Complete z a e d room) 4
       → Verdict h (Complete z a e d room) (completed_as h (complete_split h.translator (key_from z a e d)))
   unfolding complete_split
-  complete-sorted z a e d room p = go (find (holds k) (take t.count t.buffers)) (find-says (holds k) t.count t.buffers)
+  complete_sorted z a e d room p = go (find (holds k) (take t.count t.buffers)) (find_says (holds k) t.count t.buffers)
     where
       k : Key
       k = key_from z a e d
 
       go : (f : Found) → FindSays (holds k) t.count t.buffers f → Verdict h (Complete z a e d room) (completed_as h (complete_at t f))
-      go Nowhere m = at-2 h (Complete z a e d room) p (none_at_all (holds k) refl m) refl
-      go (At n) r = complete-slot z a e d room p n r (at t.buffers n.0).slot refl
+      go Nowhere m = at_2 h (Complete z a e d room) p (none_at_all (holds k) refl m) refl
+      go (At n) r = complete_slot z a e d room p n r (at t.buffers n.0).slot refl
 
-  launch-sorted : (room : ℕ) → fitting h (Launch room) ≡ true → Past h (Launch room) 4
+  launch_sorted : (room : ℕ) → fitting h (Launch room) ≡ true → Past h (Launch room) 4
       → Verdict h (Launch room) (launched_by (with_translator h (launch h.translator).next) (launch h.translator).answer (launch h.translator).payload)
   unfolding fitting
-  launch-sorted room fit p = go (launch t).answer refl (launched-as t valid.translator)
+  launch_sorted room fit p = go (launch t).answer refl (launched_as_lem t valid.translator)
     where
       c : Call
       c = Launch room
 
       go : (a : LaunchAnswer) → (launch t).answer ≡ a → LaunchedAs t a (launch t) → Verdict h c (launched_by (with_translator h (launch t).next) a (launch t).payload)
       go answer.NothingPending e says =
-          at-3 h c p never says (ap (λ (x : Translator). refuse 3 (with_translator h x)) (refused-same.launched t (ap (λ (x : LaunchAnswer). is_refusal (launch_number x)) e)))
+          at_3 h c p never says (ap (λ (x : Translator). refuse 3 (with_translator h x)) (refused_same.launched t (ap (λ (x : LaunchAnswer). is_refusal (launch_number x)) e)))
       go answer.Occupied e says = absurd (false≢true (ap (λ (x : LaunchAnswer). not (eqb (launch_number x) 8)) (sym e) ∙ fit))
       go (answer.Launches s) e says = at_last h c p never (λ u. true≢false (sym (ap is_pending says.pending) ∙ u says.number.0)) never (inr (inl refl))
 
-  rule-sorted : (c : Call) → within h c ≡ true → fitting h c ≡ true → ¬ (Misplaced h c) → Past h c 4 → Verdict h c (rule.served h c)
-  unfolding rule.served event-number
-  rule-sorted (Control z s room) w f m p = control-sorted h z s room p
-  rule-sorted (Poll z room) w f m p = poll-sorted z room p
-  rule-sorted (Start z x t f g a e l) w fit m p = start-sorted z x t f g a e l w p
-  rule-sorted (Complete z a e d room) w f m p = complete-sorted z a e d room p
-  rule-sorted (Launch room) w f m p = launch-sorted room f p
-  rule-sorted (Deliver r l) w f m p =
+  rule_sorted : (c : Call) → within h c ≡ true → fitting h c ≡ true → ¬ (Misplaced h c) → Past h c 4 → Verdict h c (rule.served h c)
+  unfolding rule.served event_number_lem
+  rule_sorted (Control z s room) w f m p = control_sorted h z s room p
+  rule_sorted (Poll z room) w f m p = poll_sorted z room p
+  rule_sorted (Start z x t f g a e l) w fit m p = start_sorted z x t f g a e l w p
+  rule_sorted (Complete z a e d room) w f m p = complete_sorted z a e d room p
+  rule_sorted (Launch room) w f m p = launch_sorted room f p
+  rule_sorted (Deliver r l) w f m p =
       at_last h (Deliver r l) p never never never
-      (⊎_elim (λ x. absurd (m x.1)) (λ x. inl x.0) (deliver-tells h (result_from r) l (result_fits h r l w)))
-  rule-sorted (Event e n) w f m p =
+      (⊎_elim (λ x. absurd (m x.1)) (λ x. inl x.0) (deliver_tells h (result_from r) l (result_fits h r l w)))
+  rule_sorted (Event e n) w f m p =
       at_last h (Event e n) p never never never
-      (⊎_elim inl (λ x. absurd (m (inr (refused-unnamed h e n x)))) (port-claims.event-answers (port_at h.ports (record { 0 = n })) (event_from e)))
-  rule-sorted Tick w f m p = at_last h Tick p never never never (inl refl)
-  rule-sorted BusReset w f m p = at_last h BusReset p never never never (inl refl)
+      (⊎_elim inl (λ x. absurd (m (inr (refused_unnamed h e n x)))) (port_claims_lem.event_answers (port_at h.ports (record { 0 = n })) (event_from e)))
+  rule_sorted Tick w f m p = at_last h Tick p never never never (inl refl)
+  rule_sorted BusReset w f m p = at_last h BusReset p never never never (inl refl)
 
   sorted : (c : Call) → Verdict h c (step h c)
   unfolding step
   sorted c = go (within h c) refl (has_space c) refl (not_silent h c) refl (fitting h c) refl
     where
       six : within h c ≡ true → Past h c 1
-      six w = past h c outside (past-none h c) (not-told (outside-tells h c) w)
+      six w = past h c outside (past_none h c) (not-told (outside_tells h c) w)
 
       seven : within h c ≡ true → has_space c ≡ true → Past h c 2
-      seven w r = past h c short (six w) (not-told (short-tells c) r)
+      seven w r = past h c short (six w) (not-told (short_tells c) r)
 
       five : within h c ≡ true → has_space c ≡ true → not_silent h c ≡ true → Past h c 3
-      five w r s = past h c silent (seven w r) (not-told (silent-tells h c) s)
+      five w r s = past h c silent (seven w r) (not-told (silent_tells h c) s)
 
       go : (w : Bool) → within h c ≡ w → (r : Bool) → has_space c ≡ r → (s : Bool) → not_silent h c ≡ s → (f : Bool) → fitting h c ≡ f
           → Verdict h c (cond (eqb (first_refusal w r s f) 0) (rule.served h c) (refuse (first_refusal w r s f) h))
-      go false w r x s y f z = is-due h c outside (past-none h c) ((outside-tells h c).0 w) refl
-      go true w false r s y f z = is-due h c short (six w) ((short-tells c).0 r) refl
-      go true w true r false s f z = is-due h c silent (seven w r) ((silent-tells h c).0 s) refl
-      go true w true r true s false f = is-due h c misplaced (five w r s) ((misplaced-tells h c w).0 f) refl
+      go false w r x s y f z = is_due h c outside (past_none h c) ((outside_tells h c).0 w) refl
+      go true w false r s y f z = is_due h c short (six w) ((short_tells c).0 r) refl
+      go true w true r false s f z = is_due h c silent (seven w r) ((silent_tells h c).0 s) refl
+      go true w true r true s false f = is_due h c misplaced (five w r s) ((misplaced_tells h c w).0 f) refl
       go true w true r true s true f =
-          let m : ¬ (Misplaced h c) = not-told (misplaced-tells h c w) f in
-          rule-sorted c w f m (past h c misplaced (five w r s) m)
+          let m : ¬ (Misplaced h c) = not-told (misplaced_tells h c w) f in
+          rule_sorted c w f m (past h c misplaced (five w r s) m)
 
   -- ---- the claim
 
@@ -521,16 +521,16 @@ module _ (h : Hub) (valid : ValidHub h) where
       go (refused q e d) =
           let n : (step h c).answer.number ≡ number_of q = ap (λ (o : Outcome). o.answer.number) e in (
             λ f. subst (λ (x : Refusal). Due x h c) (one_number q r (sym n ∙ f)) d,
-            λ due. n ∙ ap number_of (one-due q r h c d due),
+            λ due. n ∙ ap number_of (one_due q r h c d due),
           )
-      go (served s none) = (λ e. absurd (not-both (step h c).answer.number r s e), λ due. absurd (none r due.applies))
+      go (served s none) = (λ e. absurd (not_both (step h c).answer.number r s e), λ due. absurd (none r due.applies))
 
   unchanged : (r : Refusal) (c : Call) → (step h c).answer.number ≡ number_of r → ((step h c).next ≡ h) × ((step h c).answer.bytes ≡ [])
   unchanged r c n = go (sorted c)
     where
       go : Verdict h c (step h c) → ((step h c).next ≡ h) × ((step h c).answer.bytes ≡ [])
       go (refused q e d) = (ap (λ (o : Outcome). o.next) e, ap (λ (o : Outcome). o.answer.bytes) e)
-      go (served s none) = absurd (not-both (step h c).answer.number r s n)
+      go (served s none) = absurd (not_both (step h c).answer.number r s n)
 
   numbered : (c : Call) → ((r : Refusal) × ((step h c).answer.number ≡ number_of r)) ⊎ Serves (step h c).answer.number
   numbered c = go (sorted c)

@@ -51,29 +51,29 @@ abbrev pub configure : Call
 configure = Control 0 (0x00 ∷ 0x09 ∷ 1 ∷ 0 ∷ 0 ∷ 0 ∷ 0 ∷ 0 ∷ []) 64
 
 -- IN to endpoint 1 of a device
-abbrev pub in-to : ℕ → Call
-in-to a = Start 0 9 2 0 0 a 1 []
+abbrev pub in_to : ℕ → Call
+in_to a = Start 0 9 2 0 0 a 1 []
 
 abbrev pub complete : ℕ → ℕ → Call
 complete a d = Complete 0 a 1 d 64
 
 -- ClearTTBuffer of IN, device 5, endpoint 1
-abbrev pub clear-5 : Call
-clear-5 = Control 0 (0x23 ∷ 0x08 ∷ 0x51 ∷ 0x80 ∷ 1 ∷ 0 ∷ 0 ∷ 0 ∷ []) 64
+abbrev pub clear_5 : Call
+clear_5 = Control 0 (0x23 ∷ 0x08 ∷ 0x51 ∷ 0x80 ∷ 1 ∷ 0 ∷ 0 ∷ 0 ∷ []) 64
 
 late : ¬ (DataExplained (altered late_result))
 unfolding bench new_fits run_from AllExplained padded payload_of same_key numbers_fit start_fits result_length front swept find chosen permitted pass tally ranked earliest stored start_split complete_split launching.launch delivering.deliver clear_buffer split_named split_from key_named key_from kind_of asked request_of configured_as requested within has_space not_silent fitting served asks open_after is_open stores last_stored for_after last_for delivered_for
 late claim =
     let z : ◌≡◌ {A = ℕ} 0 1 =
     ap (length {A = Delivered})
-    ((claim bench (configure ∷ in-to 5 ∷ Launch 64 ∷ clear-5 ∷ in-to 6 ∷ Deliver 3 (9 ∷ []) ∷ complete 6 1 ∷ [])).1.1.1.1.1.1.0 refl) in
+    ((claim bench (configure ∷ in_to 5 ∷ Launch 64 ∷ clear_5 ∷ in_to 6 ∷ Deliver 3 (9 ∷ []) ∷ complete 6 1 ∷ [])).1.1.1.1.1.1.0 refl) in
     omega (arith, z)
 
 -- the same run with other bytes for device 5: they show in the answer for device 6
-late-shows : ¬ (MarkHidden (altered late_result))
+late_shows : ¬ (MarkHidden (altered late_result))
 unfolding bench new_fits run_from SameCalls SameAnswers padded payload_of same_key numbers_fit start_fits result_length front swept find chosen permitted pass tally ranked earliest stored start_split complete_split launching.launch delivering.deliver clear_buffer split_named split_from key_named key_from kind_of asked request_of configured_as requested within has_space not_silent fitting served asks open_after is_open stores last_stored for_after last_for delivered_for
-late-shows claim =
-    let calls : List ℕ → List Call = λ x. configure ∷ in-to 5 ∷ Launch 64 ∷ clear-5 ∷ in-to 6 ∷ Deliver 3 x ∷ complete 6 1 ∷ [] in
+late_shows claim =
+    let calls : List ℕ → List Call = λ x. configure ∷ in_to 5 ∷ Launch 64 ∷ clear_5 ∷ in_to 6 ∷ Deliver 3 x ∷ complete 6 1 ∷ [] in
     let answers =
     claim (key_of Zero 5 1 direction.In) bench bench (calls (1 ∷ [])) (calls (2 ∷ [])) refl
     (same _, (same _, (same _, (same _, (same _, (deliver 3 (1 ∷ []) (2 ∷ []) (record { key = key_of Zero 5 1 direction.In; place = some 1 }) refl refl refl, (same _, tt))))))) in
@@ -82,11 +82,11 @@ late-shows claim =
     omega (arith, z)
 
 -- an OUT complete-split is answered with what an IN was delivered
-direction-lost : ¬ (DataExplained (altered without_direction))
+direction_lost : ¬ (DataExplained (altered without_direction))
 unfolding bench new_fits run_from AllExplained padded payload_of same_key numbers_fit start_fits result_length front swept find chosen permitted pass tally ranked earliest stored start_split complete_split launching.launch delivering.deliver clear_buffer split_named split_from key_named key_from kind_of asked request_of configured_as requested within has_space not_silent fitting served asks open_after is_open stores last_stored for_after last_for delivered_for
-direction-lost claim =
+direction_lost claim =
     let z : ◌≡◌ {A = ℕ} 0 1 =
-    ap (length {A = Delivered}) ((claim bench (configure ∷ in-to 5 ∷ Launch 64 ∷ Deliver 3 (9 ∷ []) ∷ complete 5 0 ∷ [])).1.1.1.1.0 refl) in
+    ap (length {A = Delivered}) ((claim bench (configure ∷ in_to 5 ∷ Launch 64 ∷ Deliver 3 (9 ∷ []) ∷ complete 5 0 ∷ [])).1.1.1.1.0 refl) in
     omega (arith, z)
 
 -- the number of bytes of the first
@@ -94,10 +94,10 @@ size : List Delivered → ℕ
 size [] = 0
 size (d ∷ ds) = length d.bytes
 
-tail-shown : ¬ (DataExplained (altered longer_tail))
+tail_shown : ¬ (DataExplained (altered longer_tail))
 unfolding size bench new_fits run_from AllExplained padded payload_of same_key numbers_fit start_fits result_length front swept find chosen permitted pass tally ranked earliest stored start_split complete_split launching.launch delivering.deliver clear_buffer split_named split_from key_named key_from kind_of asked request_of configured_as requested within has_space not_silent fitting served asks open_after is_open stores last_stored for_after last_for delivered_for
-tail-shown claim =
-    let z : ◌≡◌ {A = ℕ} 1 64 = ap size ((claim bench (configure ∷ in-to 5 ∷ Launch 64 ∷ Deliver 3 (9 ∷ []) ∷ complete 5 1 ∷ [])).1.1.1.1.0 refl) in
+tail_shown claim =
+    let z : ◌≡◌ {A = ℕ} 1 64 = ap size ((claim bench (configure ∷ in_to 5 ∷ Launch 64 ∷ Deliver 3 (9 ∷ []) ∷ complete 5 1 ∷ [])).1.1.1.1.0 refl) in
     omega (arith, z)
 
 -- the device of a start-split
@@ -127,10 +127,10 @@ early {a} {h} e l = go e.place l (ap device e.gives)
     go (suc (suc (suc p))) l q = absurd (omega (arith, l))
 
 -- device 6 was stored before device 7, and 7 is launched
-twice-placed : ¬ (LaunchOrder (altered places_twice))
+twice_placed : ¬ (LaunchOrder (altered places_twice))
 unfolding device bench new_fits run_from AllOrdered pending_after is_pending_at call_at padded payload_of same_key numbers_fit start_fits result_length front swept find chosen permitted pass tally ranked earliest stored start_split complete_split launching.launch delivering.deliver clear_buffer split_named split_from key_named key_from kind_of asked request_of configured_as requested within has_space not_silent fitting served asks open_after is_open stores last_stored for_after last_for delivered_for
-twice-placed claim =
-    let e = (claim bench (configure ∷ in-to 5 ∷ in-to 6 ∷ Launch 64 ∷ Deliver 3 (9 ∷ []) ∷ complete 5 1 ∷ in-to 7 ∷ Launch 64 ∷ [])).1.1.1.1.1.1.1.0.0 refl in
+twice_placed claim =
+    let e = (claim bench (configure ∷ in_to 5 ∷ in_to 6 ∷ Launch 64 ∷ Deliver 3 (9 ∷ []) ∷ complete 5 1 ∷ in_to 7 ∷ Launch 64 ∷ [])).1.1.1.1.1.1.1.0.0 refl in
     let f = early e (e.earliest 2 refl) in
     ⊎_elim (λ z. omega (arith, z)) (⊎_elim (λ z. omega (arith, z)) (λ z. omega (arith, z))) f
 
@@ -138,43 +138,43 @@ twice-placed claim =
 latest-launched : ¬ (LaunchOrder (altered latest_first))
 unfolding device bench new_fits run_from AllOrdered pending_after is_pending_at call_at padded payload_of same_key numbers_fit start_fits result_length front swept find chosen permitted pass tally ranked earliest stored start_split complete_split launching.launch delivering.deliver clear_buffer split_named split_from key_named key_from kind_of asked request_of configured_as requested within has_space not_silent fitting served asks open_after is_open stores last_stored for_after last_for delivered_for
 latest-launched claim =
-    let e = (claim bench (configure ∷ in-to 5 ∷ Control 0 (0x80 ∷ 0x08 ∷ 0 ∷ 0 ∷ 0 ∷ 0 ∷ 1 ∷ 0 ∷ []) 64 ∷ in-to 6 ∷ Launch 64 ∷ [])).1.1.1.1.0.0 refl in
+    let e = (claim bench (configure ∷ in_to 5 ∷ Control 0 (0x80 ∷ 0x08 ∷ 0 ∷ 0 ∷ 0 ∷ 0 ∷ 1 ∷ 0 ∷ []) 64 ∷ in_to 6 ∷ Launch 64 ∷ [])).1.1.1.1.0.0 refl in
     let f = early e (omega (arith, e.earliest 1 refl)) in
     ⊎_elim (λ z. omega (arith, z)) (⊎_elim (λ z. omega (arith, z)) (λ z. omega (arith, z))) f
 
-own-request : (h : Hub) (y : Lane) (r : Request) → request_by own own_ports h y r ≡ by_request h y r
-own-request h y (Wrong f) = refl
-own-request h y (SetConfiguration on) = refl
-own-request h y GetConfiguration = refl
-own-request h y (GetHubDescriptor n) = refl
-own-request h y GetHubStatus = refl
-own-request h y (GetPortStatus n) = refl
-own-request h y ClearHubFeature = refl
-own-request h y (ClearPortFeature n f) = refl
-own-request h y (SetPortFeature n f) = refl
-own-request h y (ClearTTBuffer k) = refl
-own-request h y ResetTT = refl
+own_request : (h : Hub) (y : Lane) (r : Request) → request_by own own_ports h y r ≡ by_request h y r
+own_request h y (Wrong f) = refl
+own_request h y (SetConfiguration on) = refl
+own_request h y GetConfiguration = refl
+own_request h y (GetHubDescriptor n) = refl
+own_request h y GetHubStatus = refl
+own_request h y (GetPortStatus n) = refl
+own_request h y ClearHubFeature = refl
+own_request h y (ClearPortFeature n f) = refl
+own_request h y (SetPortFeature n f) = refl
+own_request h y (ClearTTBuffer k) = refl
+own_request h y ResetTT = refl
 
-own-served : OwnServed
+own_served : OwnServed
 unfolding served requested
-own-served h (Control z s room) = rw (own-request h (lane_from z) (request_of h.identity.ports s))
-own-served h (Poll z room) = refl
-own-served h (Start z p t f g a e l) = refl
-own-served h (Complete z a e d room) = refl
-own-served h (Launch room) = refl
-own-served h (Deliver r l) = refl
-own-served h (Line e n) = refl
-own-served h Tick = refl
-own-served h BusReset = refl
+own_served h (Control z s room) = rw (own_request h (lane_from z) (request_of h.identity.ports s))
+own_served h (Poll z room) = refl
+own_served h (Start z p t f g a e l) = refl
+own_served h (Complete z a e d room) = refl
+own_served h (Launch room) = refl
+own_served h (Deliver r l) = refl
+own_served h (Line e n) = refl
+own_served h Tick = refl
+own_served h BusReset = refl
 
-pub mistakes-shut-out : MistakesShutOut
-mistakes-shut-out =
+pub mistakes_shut_out_lem : MistakesShutOut
+mistakes_shut_out_lem =
     record {
-      own-served = own-served;
-      late-result = late;
-      late-result-shows = late-shows;
-      without-direction = direction-lost;
-      longer-tail = tail-shown;
-      places-twice = twice-placed;
-      latest-first = latest-launched;
+      own_served = own_served;
+      late_result_lem = late;
+      late_result_shows = late_shows;
+      without_direction_lem = direction_lost;
+      longer_tail_lem = tail_shown;
+      places_twice_lem = twice_placed;
+      latest_first_lem = latest-launched;
     }

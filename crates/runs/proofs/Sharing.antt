@@ -27,8 +27,8 @@ use Rattle.hub.specs.declared.Hub.{Hub}
 use Rattle.hub.specs.Call.{Call, Control, Poll, Start, Complete, Launch, Deliver, Event as Line, Tick, BusReset, Answer}
 use Rattle.hub.specs.Valid.{ValidHub}
 use Rattle.hub.specs.Step.{step}
-use Rattle.hub.proofs.Valid.{new-valid, step-valid}
-use Rattle.hub.proofs.MadeFrom.{numbers-kept}
+use Rattle.hub.proofs.Valid.{new_valid, step_valid}
+use Rattle.hub.proofs.MadeFrom.{numbers_kept}
 use Rattle.runs.specs.History.{History, request_asks, asks}
 use Rattle.runs.specs.Order.{call_at, is_from}
 use Rattle.runs.specs.Machine.{rules, new_hub_of, run_from}
@@ -39,54 +39,54 @@ use Rattle.runs.specs.Share.{holding, Shared, AllShared, LaneShare}
 use Rattle.translator.proofs.Kept.{all_held}
 use Rattle.runs.proofs.Kept.{ev, Tied}
 use Rattle.runs.proofs.Steps.{step_kept}
-use Rattle.runs.proofs.Theorems.{new-tied}
+use Rattle.runs.proofs.Theorems.{new_tied}
 use Rattle.runs.proofs.Acceptance.{key_in}
-use Rattle.runs.proofs.Fates.{stored-lane}
-use Rattle.runs.proofs.Tallied.{waiting-count}
+use Rattle.runs.proofs.Fates.{stored_lane}
+use Rattle.runs.proofs.Tallied.{waiting_count}
 use Rattle.runs.proofs.Refusing.{refusals}
 
 -- ---- as many start-splits of the lane wait as it holds buffers
 
-active-of : (z : Lane) (s : Slot) → active_in z s ≡ true → is_active s ≡ true
-active-of z Empty e = e
-active-of z (Pending s p) e = refl
-active-of z (Ready s r) e = refl
-active-of z (Old s r) e = e
+active_of : (z : Lane) (s : Slot) → active_in z s ≡ true → is_active s ≡ true
+active_of z Empty e = e
+active_of z (Pending s p) e = refl
+active_of z (Ready s r) e = refl
+active_of z (Old s r) e = e
 
-lane-active : (z : Lane) (s : Slot) → is_active s ≡ true → active_in z s ≡ same_lane (key_in s).lane z
-lane-active z Empty e = absurd (false≢true e)
-lane-active z (Pending s p) e = refl
-lane-active z (Ready s r) e = refl
-lane-active z (Old s r) e = absurd (false≢true e)
+lane_active : (z : Lane) (s : Slot) → is_active s ≡ true → active_in z s ≡ same_lane (key_in s).lane z
+lane_active z Empty e = absurd (false≢true e)
+lane_active z (Pending s p) e = refl
+lane_active z (Ready s r) e = refl
+lane_active z (Old s r) e = absurd (false≢true e)
 
 lane_count : (z : Lane) (h : History) (t : Translator) → Tied h t → holding z h ≡ held_by z t.buffers
 lane_count z h t tied =
-    waiting-count h t tied (every_key_of z) (active_in z) (λ s. is_from z (call_at h s))
-    (record { active = active-of z; of-slot = lane-active z; of-place = stored-lane h z })
+    waiting_count h t tied (every_key_of z) (active_in z) (λ s. is_from z (call_at h s))
+    (record { active = active_of z; of_slot = lane_active z; of_place = stored_lane h z })
 
-few-after : (z : Lane) (b : ℕ) (cs : List Call) (h : History) (hub : Hub) → Tied h hub.translator → hub.translator.count ≡ b
+few_after : (z : Lane) (b : ℕ) (cs : List Call) (h : History) (hub : Hub) → Tied h hub.translator → hub.translator.count ≡ b
     → holding z (past h (run_from rules hub cs)) < b
 unfolding run_from past
-few-after z b [] h hub tied e = omega (arith, lane_count z h hub.translator tied, tied.valid.lanes z, e)
-few-after z b (c ∷ cs) h hub tied e =
-    few-after z b cs (ev c (step hub c).answer ∷ h) (step hub c).next (step_kept h hub tied c).0 ((numbers-kept hub c).buffers ∙ e)
+few_after z b [] h hub tied e = omega (arith, lane_count z h hub.translator tied, tied.valid.lanes z, e)
+few_after z b (c ∷ cs) h hub tied e =
+    few_after z b cs (ev c (step hub c).answer ∷ h) (step hub c).next (step_kept h hub tied c).0 ((numbers_kept hub c).buffers ∙ e)
 
 -- ---- the two lanes together
 
-lane-bits : (l : Lane) → 1 ≡ bit (same_lane l Zero) + bit (same_lane l One)
-lane-bits Zero = refl
-lane-bits One = refl
+lane_bits : (l : Lane) → 1 ≡ bit (same_lane l Zero) + bit (same_lane l One)
+lane_bits Zero = refl
+lane_bits One = refl
 
-slot-lanes : (s : Slot) → bit (is_active s) ≡ bit (active_in Zero s) + bit (active_in One s)
-slot-lanes Empty = refl
-slot-lanes (Pending s p) = lane-bits s.lane
-slot-lanes (Ready s r) = lane-bits s.lane
-slot-lanes (Old s r) = refl
+slot_lanes : (s : Slot) → bit (is_active s) ≡ bit (active_in Zero s) + bit (active_in One s)
+slot_lanes Empty = refl
+slot_lanes (Pending s p) = lane_bits s.lane
+slot_lanes (Ready s r) = lane_bits s.lane
+slot_lanes (Old s r) = refl
 
 both_lanes : (bs : List Buffer) → tally is_active bs ≡ held_by Zero bs + held_by One bs
 unfolding tally
 both_lanes [] = refl
-both_lanes (b ∷ bs) = omega (arith, slot-lanes b.slot, both_lanes bs)
+both_lanes (b ∷ bs) = omega (arith, slot_lanes b.slot, both_lanes bs)
 
 all_in : (f : Slot → Bool) (n : ℕ) (bs : List Buffer) → n ≤ length bs → ((i : ℕ) → i < n → f (at bs i).slot ≡ true) → n ≤ tally f bs
 unfolding tally
@@ -106,47 +106,47 @@ module _ (hub : Hub) (valid : ValidHub hub) where
   bs = hub.translator.buffers
 
   -- the other lane would hold every buffer
-  not-all : (z : Lane) → held_by z bs ≡ 0 → ¬ (hub.translator.count ≤ tally is_active bs)
-  not-all Zero e l =
+  not_all : (z : Lane) → held_by z bs ≡ 0 → ¬ (hub.translator.count ≤ tally is_active bs)
+  not_all Zero e l =
       let o : held_by One bs < hub.translator.count = valid.translator.lanes One in
       let s : tally is_active bs ≡ held_by Zero bs + held_by One bs = both_lanes bs in
       absurd (omega (arith, e, l, o, s))
-  not-all One e l =
+  not_all One e l =
       let o : held_by Zero bs < hub.translator.count = valid.translator.lanes Zero in
       let s : tally is_active bs ≡ held_by Zero bs + held_by One bs = both_lanes bs in
       absurd (omega (arith, e, l, o, s))
 
   -- nothing to give only at the limit or where nothing is free
-  no-nak : (z : Lane) → held_by z bs ≡ 0 → {P : Type 0} → AtLimit z hub.translator ⊎ (P × NoneInUse is_free hub) → ⊥
-  no-nak z e (inl a) =
+  no_nak : (z : Lane) → held_by z bs ≡ 0 → {P : Type 0} → AtLimit z hub.translator ⊎ (P × NoneInUse is_free hub) → ⊥
+  no_nak z e (inl a) =
       let two : 2 ≤ hub.translator.count = valid.translator.least in
       let a' : hub.translator.count ≤ held_by z (take hub.translator.count bs) + 1 = a in
       absurd (omega (arith, e, two, a', all_held hub.translator valid.translator z))
-  no-nak z e (inr a) =
+  no_nak z e (inr a) =
       let four : length bs ≡ 4 = valid.translator.four in
       let most : hub.translator.count ≤ 4 = valid.translator.most in
-      not-all z e (all_in is_active hub.translator.count bs (omega (arith, four, most)) (λ i l. busy (slot_at hub i) (a.1 i l)))
+      not_all z e (all_in is_active hub.translator.count bs (omega (arith, four, most)) (λ i l. busy (slot_at hub i) (a.1 i l)))
 
-request-shared : (z : Lane) (x : Kind) (v : ℕ) (a : Answer) (h : History) → Shared (request_asks z x v) a h
-request-shared z kind.Unknown v a h = tt
-request-shared z kind.SetConfiguration v a h = tt
-request-shared z kind.GetConfiguration v a h = tt
-request-shared z kind.GetHubDescriptor v a h = tt
-request-shared z kind.GetHubStatus v a h = tt
-request-shared z kind.GetPortStatus v a h = tt
-request-shared z kind.ClearHubFeature v a h = tt
-request-shared z kind.ClearPortFeature v a h = tt
-request-shared z kind.SetPortFeature v a h = tt
-request-shared z kind.ClearTTBuffer v a h = tt
-request-shared z kind.ResetTT v a h = tt
+request_shared : (z : Lane) (x : Kind) (v : ℕ) (a : Answer) (h : History) → Shared (request_asks z x v) a h
+request_shared z kind.Unknown v a h = tt
+request_shared z kind.SetConfiguration v a h = tt
+request_shared z kind.GetConfiguration v a h = tt
+request_shared z kind.GetHubDescriptor v a h = tt
+request_shared z kind.GetHubStatus v a h = tt
+request_shared z kind.GetPortStatus v a h = tt
+request_shared z kind.ClearHubFeature v a h = tt
+request_shared z kind.ClearPortFeature v a h = tt
+request_shared z kind.SetPortFeature v a h = tt
+request_shared z kind.ClearTTBuffer v a h = tt
+request_shared z kind.ResetTT v a h = tt
 
 shared_step : (h : History) (hub : Hub) → Tied h hub.translator → ValidHub hub → (c : Call) → Shared (asks c) (step hub c).answer h
 unfolding asks
 shared_step h hub tied valid (Control z s room) =
-    request-shared (lane_from z) (kind_of (setup_of s).requesttype (setup_of s).code) (setup_of s).value (step hub (Control z s room)).answer h
+    request_shared (lane_from z) (kind_of (setup_of s).requesttype (setup_of s).code) (setup_of s).value (step hub (Control z s room)).answer h
 shared_step h hub tied valid (Poll z room) = tt
 shared_step h hub tied valid (Start z p t f g a e l) = λ held three.
-    no-nak hub valid (lane_from z) (sym (lane_count (lane_from z) h hub.translator tied) ∙ held)
+    no_nak hub valid (lane_from z) (sym (lane_count (lane_from z) h hub.translator tied) ∙ held)
     ((refusals.exactly nak hub (Start z p t f g a e l) valid).0 three).applies.1
 shared_step h hub tied valid (Complete z a e d room) = tt
 shared_step h hub tied valid (Launch room) = tt
@@ -155,17 +155,17 @@ shared_step h hub tied valid (Line e n) = tt
 shared_step h hub tied valid Tick = tt
 shared_step h hub tied valid BusReset = tt
 
-all-shared : (cs : List Call) (h : History) (hub : Hub) → Tied h hub.translator → ValidHub hub → AllShared h (run_from rules hub cs)
+all_shared : (cs : List Call) (h : History) (hub : Hub) → Tied h hub.translator → ValidHub hub → AllShared h (run_from rules hub cs)
 unfolding run_from AllShared
-all-shared [] h hub tied valid = tt
-all-shared (c ∷ cs) h hub tied valid = (
+all_shared [] h hub tied valid = tt
+all_shared (c ∷ cs) h hub tied valid = (
   shared_step h hub tied valid c,
-  all-shared cs (ev c (step hub c).answer ∷ h) (step hub c).next (step_kept h hub tied c).0 (step-valid hub valid c),
+  all_shared cs (ev c (step hub c).answer ∷ h) (step hub c).next (step_kept h hub tied c).0 (step_valid hub valid c),
 )
 
-pub lane-share : LaneShare rules
-lane-share =
+pub lane_share : LaneShare rules
+lane_share =
     record {
-      few = λ z n cs. few-after z n.buffers cs [] (new_hub_of n) (new-tied n) refl;
-      served = λ n cs. all-shared cs [] (new_hub_of n) (new-tied n) (new-valid n.ports n.buffers n.powergood n.current n.removable n.fit);
+      few = λ z n cs. few_after z n.buffers cs [] (new_hub_of n) (new_tied n) refl;
+      served = λ n cs. all_shared cs [] (new_hub_of n) (new_tied n) (new_valid n.ports n.buffers n.powergood n.current n.removable n.fit);
     }

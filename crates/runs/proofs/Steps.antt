@@ -32,17 +32,17 @@ use Rattle.hub.specs.Requests.{keyed, by_request, served_always, requested}
 use Rattle.hub.specs.Rules.{polled, completed_by, launched_by}
 use Rattle.hub.specs.Checks.{within}
 use Rattle.hub.specs.Step.{served, step}
-use Rattle.hub.proofs.Order.{by-checks}
+use Rattle.hub.proofs.Order.{by_checks}
 use Rattle.hub.proofs.Valid.{completed-next, launched-next}
 use Rattle.runs.specs.History.{History, Asks, nothing, starts, completes, clears, resets, empties, key_of, request_asks, asks}
 use Rattle.runs.proofs.Histories.{Refused}
-use Rattle.runs.proofs.Kept.{Tied, Kept, refused-kept, nothing-kept, start-kept, complete-kept, launch-said, deliver-kept, clear-said, reset-said, empty-said}
+use Rattle.runs.proofs.Kept.{Tied, Kept, refused_kept, nothing_kept, start_kept, complete_kept, launch_said_lem, deliver_kept, clear_said, reset_said, empty_said}
 
 -- ---- the key of a call whose numbers are within the rules
 
-pub start-key : (z p t f g a e : ℕ) → split_named z p t f g a e ≡ true → key_of (lane_from z) a e (key.direction_of (pid_from p)) ≡ key.key_of (split_from z p t f g a e)
+pub start_key : (z p t f g a e : ℕ) → split_named z p t f g a e ≡ true → key_of (lane_from z) a e (key.direction_of (pid_from p)) ≡ key.key_of (split_from z p t f g a e)
 unfolding split_named split_from
-start-key z p t f g a e named =
+start_key z p t f g a e named =
     let w = (and-eq-true_iff (is_lane z) ((is_pid p && is_type t) && ((is_flag f && is_flag g) && (ltb a 128 && ltb e 16)))).0 named in
     let x = (and-eq-true_iff (is_pid p && is_type t) ((is_flag f && is_flag g) && (ltb a 128 && ltb e 16))).0 w.1 in
     let y = (and-eq-true_iff (is_flag f && is_flag g) (ltb a 128 && ltb e 16)).0 x.1 in
@@ -93,9 +93,9 @@ meaning-asks y kind.SetPortFeature v i l = refl
 meaning-asks y kind.ClearTTBuffer v i l = refl
 meaning-asks y kind.ResetTT v i l = refl
 
-pub request-asks : (n z : ℕ) (s : List ℕ) (room : ℕ) → AsksFor (lane_from z) (request_of n s) (asks (Control z s room))
+pub request_asks_lem : (n z : ℕ) (s : List ℕ) (room : ℕ) → AsksFor (lane_from z) (request_of n s) (asks (Control z s room))
 unfolding asks request_of checked
-request-asks n z s room =
+request_asks_lem n z s room =
     go (is_known k) (value_fits k (setup_of s).value) (index_fits n k (setup_of s).index) (length_fits k (setup_of s).length)
   where
     k : Kind
@@ -116,21 +116,21 @@ module _ (h : History) (hub : Hub) (tied : Tied h hub.translator) where
   KeptBy c o = Kept h c o.next.translator o.answer
 
   refusal : (c : Call) (n : ℕ) → Refused (plain_answer n) → KeptBy c (refuse n hub)
-  refusal c n r = refused-kept h hub.translator tied c (plain_answer n) r
+  refusal c n r = refused_kept h hub.translator tied c (plain_answer n) r
 
-  by-request : (c : Call) (y : Lane) (r : Request) → AsksFor y r (asks c) → KeptBy c (by_request hub y r)
+  by_request_lem : (c : Call) (y : Lane) (r : Request) → AsksFor y r (asks c) → KeptBy c (by_request hub y r)
   unfolding configured_as
-  by-request c y (Wrong f) q = refusal c 2 (record { not-0 = refl; not-1 = refl; not-9 = refl })
-  by-request c y (SetConfiguration on) q = empty-said h hub.translator tied c q
-  by-request c y GetConfiguration q = nothing-kept h hub.translator tied c _ q
-  by-request c y (GetHubDescriptor n) q = nothing-kept h hub.translator tied c _ q
-  by-request c y GetHubStatus q = nothing-kept h hub.translator tied c _ q
-  by-request c y (GetPortStatus n) q = nothing-kept h hub.translator tied c _ q
-  by-request c y ClearHubFeature q = nothing-kept h hub.translator tied c _ q
-  by-request c y (ClearPortFeature n f) q = nothing-kept h hub.translator tied c _ q
-  by-request c y (SetPortFeature n f) q = nothing-kept h hub.translator tied c _ q
-  by-request c y (ClearTTBuffer k) q = clear-said h hub.translator tied c (keyed y k) q
-  by-request c y ResetTT q = reset-said h hub.translator tied c y q
+  by_request_lem c y (Wrong f) q = refusal c 2 (record { not_0 = refl; not_1 = refl; not_9 = refl })
+  by_request_lem c y (SetConfiguration on) q = empty_said h hub.translator tied c q
+  by_request_lem c y GetConfiguration q = nothing_kept h hub.translator tied c _ q
+  by_request_lem c y (GetHubDescriptor n) q = nothing_kept h hub.translator tied c _ q
+  by_request_lem c y GetHubStatus q = nothing_kept h hub.translator tied c _ q
+  by_request_lem c y (GetPortStatus n) q = nothing_kept h hub.translator tied c _ q
+  by_request_lem c y ClearHubFeature q = nothing_kept h hub.translator tied c _ q
+  by_request_lem c y (ClearPortFeature n f) q = nothing_kept h hub.translator tied c _ q
+  by_request_lem c y (SetPortFeature n f) q = nothing_kept h hub.translator tied c _ q
+  by_request_lem c y (ClearTTBuffer k) q = clear_said h hub.translator tied c (keyed y k) q
+  by_request_lem c y ResetTT q = reset_said h hub.translator tied c y q
 
   control : (z : ℕ) (s : List ℕ) (room : ℕ) → KeptBy (Control z s room) (requested hub (lane_from z) (request_of hub.identity.ports s))
   unfolding requested
@@ -140,24 +140,24 @@ module _ (h : History) (hub : Hub) (tied : Tied h hub.translator) where
       r = request_of hub.identity.ports s
 
       go : (x : Bool) → KeptBy (Control z s room) (cond x (by_request hub (lane_from z) r) (refuse 2 hub))
-      go true = by-request (Control z s room) (lane_from z) r (request-asks hub.identity.ports z s room)
-      go false = refusal (Control z s room) 2 (record { not-0 = refl; not-1 = refl; not-9 = refl })
+      go true = by_request_lem (Control z s room) (lane_from z) r (request_asks_lem hub.identity.ports z s room)
+      go false = refusal (Control z s room) 2 (record { not_0 = refl; not_1 = refl; not_9 = refl })
 
   poll : (z room : ℕ) → KeptBy (Poll z room) (polled hub)
   unfolding polled asks
   poll z room = go (eqb (bitmap_of hub.identity.ports hub.ports) 0)
     where
       go : (x : Bool) → KeptBy (Poll z room) (cond x (refuse 3 hub) (gives hub (bitmap_of hub.identity.ports hub.ports ∷ [])))
-      go true = nothing-kept h hub.translator tied (Poll z room) _ refl
-      go false = nothing-kept h hub.translator tied (Poll z room) _ refl
+      go true = nothing_kept h hub.translator tied (Poll z room) _ refl
+      go false = nothing_kept h hub.translator tied (Poll z room) _ refl
 
   tick : KeptBy Tick (done (ticked_hub hub))
   unfolding ticked_hub asks
   tick = go hub.configured
     where
       go : (x : Bool) → KeptBy Tick (done (cond x (with_ports hub (swept Tick' hub.identity.ports hub.ports)) hub))
-      go true = nothing-kept h hub.translator tied Tick _ refl
-      go false = nothing-kept h hub.translator tied Tick _ refl
+      go true = nothing_kept h hub.translator tied Tick _ refl
+      go false = nothing_kept h hub.translator tied Tick _ refl
 
   serve : (c : Call) → within hub c ≡ true → KeptBy c (served hub c)
   unfolding served within asks reset_hub
@@ -165,26 +165,26 @@ module _ (h : History) (hub : Hub) (tied : Tied h hub.translator) where
   serve (Poll z room) w = poll z room
   serve (Start z p t f g a e l) w =
       let x = (and-eq-true_iff (split_named z p t f g a e) (start_fits (split_from z p t f g a e) (length l))).0 w in
-      start-kept h hub.translator tied (Start z p t f g a e l) (split_from z p t f g a e) l (ap starts (start-key z p t f g a e x.0)) x.1
+      start_kept h hub.translator tied (Start z p t f g a e l) (split_from z p t f g a e) l (ap starts (start_key z p t f g a e x.0)) x.1
   serve (Complete z a e d room) w =
       let o = complete_split hub.translator (key_from z a e d) in
       let next = with_translator hub o.next in
       subst (λ (u : Hub). Kept h (Complete z a e d room) u.translator (completed_by next o.answer o.payload).answer) (sym (completed-next next o.answer o.payload))
-      (complete-kept h hub.translator tied next (Complete z a e d room) (key_from z a e d) (ap completes (complete-key z a e d w)))
+      (complete_kept h hub.translator tied next (Complete z a e d room) (key_from z a e d) (ap completes (complete-key z a e d w)))
   serve (Launch room) w =
       let o = launch hub.translator in
       let next = with_translator hub o.next in
       subst (λ (u : Hub). Kept h (Launch room) u.translator (launched_by next o.answer o.payload).answer) (sym (launched-next next o.answer o.payload))
-      (launch-said h hub.translator tied next (Launch room) refl)
-  serve (Deliver r l) w = deliver-kept h hub.translator tied (Deliver r l) (result_from r) l refl ((and-eq-true_iff (is_result r) (result_length (result_from r) (length l))).0 w).1
-  serve (Line e n) w = nothing-kept h hub.translator tied (Line e n) _ refl
+      (launch_said_lem h hub.translator tied next (Launch room) refl)
+  serve (Deliver r l) w = deliver_kept h hub.translator tied (Deliver r l) (result_from r) l refl ((and-eq-true_iff (is_result r) (result_length (result_from r) (length l))).0 w).1
+  serve (Line e n) w = nothing_kept h hub.translator tied (Line e n) _ refl
   serve Tick w = tick
-  serve BusReset w = empty-said h hub.translator tied BusReset refl
+  serve BusReset w = empty_said h hub.translator tied BusReset refl
 
   pub step_kept : (c : Call) → KeptBy c (step hub c)
   step_kept c =
-      by-checks hub c (KeptBy c) (refusal c 6 (record { not-0 = refl; not-1 = refl; not-9 = refl }))
-      (refusal c 7 (record { not-0 = refl; not-1 = refl; not-9 = refl }))
-      (refusal c 5 (record { not-0 = refl; not-1 = refl; not-9 = refl }))
-      (refusal c 8 (record { not-0 = refl; not-1 = refl; not-9 = refl }))
+      by_checks hub c (KeptBy c) (refusal c 6 (record { not_0 = refl; not_1 = refl; not_9 = refl }))
+      (refusal c 7 (record { not_0 = refl; not_1 = refl; not_9 = refl }))
+      (refusal c 5 (record { not_0 = refl; not_1 = refl; not_9 = refl }))
+      (refusal c 8 (record { not_0 = refl; not_1 = refl; not_9 = refl }))
       (λ w f. serve c w)

@@ -25,7 +25,7 @@ use Rattle.translator.specs.Translator.{at, tally}
 use Rattle.bools.specs.Bit.{bit}
 use Rattle.translator.specs.Search.{find}
 use Rattle.translator.specs.CompleteSplit.{complete_at, complete_split}
-use Rattle.translator.proofs.Finding.{FindSays, find-says}
+use Rattle.translator.proofs.Finding.{FindSays, find_says}
 use Rattle.numbers.specs.Named.{lane_from}
 use Rattle.numbers.specs.Split.{key_from}
 use Rattle.request.specs.declared.Kind.{Kind}
@@ -37,7 +37,7 @@ use Rattle.hub.specs.Call.{Call, Control, Poll, Start, Complete, Launch, Deliver
 use Rattle.hub.specs.Rules.{completed_as}
 use Rattle.hub.specs.Checks.{within}
 use Rattle.hub.specs.Step.{served, step}
-use Rattle.hub.proofs.Order.{by-checks}
+use Rattle.hub.proofs.Order.{by_checks}
 use Rattle.runs.specs.History.{Event, History, Asks, nothing, starts, completes, launches, delivers, clears, resets, empties, request_asks, asks, is_done, gives_result, is_open, stores, last_stored, is_at}
 use Rattle.runs.specs.Order.{call_at, is_from}
 use Rattle.runs.specs.Machine.{rules, new_hub_of, run_from, after_from}
@@ -46,16 +46,16 @@ use Rattle.runs.proofs.Histories.{Below, stored-below, some_inj, one_key}
 use Rattle.runs.proofs.Invariant.{Good, Inv, Unheld}
 use Rattle.runs.proofs.Kept.{ev, Tied}
 use Rattle.runs.proofs.Steps.{complete-key, step_kept}
-use Rattle.runs.proofs.Theorems.{new-tied}
+use Rattle.runs.proofs.Theorems.{new_tied}
 use Rattle.runs.proofs.Acceptance.{key_in, holds-key}
-use Rattle.runs.proofs.Counting.{count-sum, Matched, matched}
-use Rattle.runs.proofs.Fates.{is-at, waiting, waits, open-waits, Opener, opener}
+use Rattle.runs.proofs.Counting.{count_sum, Matched, matched}
+use Rattle.runs.proofs.Fates.{is_at_lem, waiting, waits, open_waits, Opener, opener}
 
 -- ---- an open key is held
 
-held-or : (k : Key) (bs : List Buffer) → ((i : ℕ) × (holds k (at bs i).slot ≡ true)) ⊎ Unheld k bs
-held-or k [] = inr (λ i. refl)
-held-or k (b ∷ bs) = go (holds k b.slot) refl (held-or k bs)
+held_or : (k : Key) (bs : List Buffer) → ((i : ℕ) × (holds k (at bs i).slot ≡ true)) ⊎ Unheld k bs
+held_or k [] = inr (λ i. refl)
+held_or k (b ∷ bs) = go (holds k b.slot) refl (held_or k bs)
   where
     go : (x : Bool) → holds k b.slot ≡ x → ((i : ℕ) × (holds k (at bs i).slot ≡ true)) ⊎ Unheld k bs → ((i : ℕ) × (holds k (at (b ∷ bs) i).slot ≡ true)) ⊎ Unheld k (b ∷ bs)
     go true e r = inl (0, e)
@@ -67,7 +67,7 @@ held-or k (b ∷ bs) = go (holds k b.slot) refl (held-or k bs)
         none (suc i) = u i
 
 holder : {h : History} {bs : List Buffer} {low : LowSide} → Inv h bs low → (k : Key) → is_open h k ≡ true → (i : ℕ) × (holds k (at bs i).slot ≡ true)
-holder {h} {bs} inv k o = go (held-or k bs)
+holder {h} {bs} inv k o = go (held_or k bs)
   where
     go : ((i : ℕ) × (holds k (at bs i).slot ≡ true)) ⊎ Unheld k bs → (i : ℕ) × (holds k (at bs i).slot ≡ true)
     go (inl f) = f
@@ -75,11 +75,11 @@ holder {h} {bs} inv k o = go (held-or k bs)
 
 -- ---- as many start-splits wait as buffers are pending or ready
 
-active-holds : (s : Slot) → is_active s ≡ true → holds (key_in s) s ≡ true
-active-holds Empty e = e
-active-holds (Pending s p) e = same_refl (key_in (Pending s p))
-active-holds (Ready s r) e = same_refl (key_in (Ready s r))
-active-holds (Old s r) e = absurd (false≢true e)
+active_holds : (s : Slot) → is_active s ≡ true → holds (key_in s) s ≡ true
+active_holds Empty e = e
+active_holds (Pending s p) e = same_refl (key_in (Pending s p))
+active_holds (Ready s r) e = same_refl (key_in (Ready s r))
+active_holds (Old s r) e = absurd (false≢true e)
 
 abbrev place_of : Option ℕ → ℕ
 place_of none = 0
@@ -88,12 +88,12 @@ place_of (some s) = s
 -- f tells of a buffer that is pending or ready, and p of a start-split, whether its key passes m; nothing else passes f
 pub record ByKey (h : History) (m : Key → Bool) (f : Slot → Bool) (p : ℕ → Bool) : Type 0 where
   pub active : (s : Slot) → f s ≡ true → is_active s ≡ true
-  pub of-slot : (s : Slot) → is_active s ≡ true → f s ≡ m (key_in s)
-  pub of-place : (k : Key) (s : ℕ) → last_stored h k ≡ some s → p s ≡ m k
+  pub of_slot : (s : Slot) → is_active s ≡ true → f s ≡ m (key_in s)
+  pub of_place : (k : Key) (s : ℕ) → last_stored h k ≡ some s → p s ≡ m k
 
-pub waiting-count : (h : History) (t : Translator) → Tied h t → (m : Key → Bool) (f : Slot → Bool) (p : ℕ → Bool) → ByKey h m f p
+pub waiting_count : (h : History) (t : Translator) → Tied h t → (m : Key → Bool) (f : Slot → Bool) (p : ℕ → Bool) → ByKey h m f p
     → count_to (λ s. p s && waits_at h s) (length h) ≡ tally f t.buffers
-waiting-count h t tied m f p told = matched f (empty (f Empty) refl) t.buffers (λ s. p s && waits_at h s) (length h) together
+waiting_count h t tied m f p told = matched f (empty (f Empty) refl) t.buffers (λ s. p s && waits_at h s) (length h) together
   where
     empty : (x : Bool) → f Empty ≡ x → x ≡ false
     empty true e = sym (told.active Empty e)
@@ -109,16 +109,16 @@ waiting-count h t tied m f p told = matched f (empty (f Empty) refl) t.buffers (
     act i e = told.active (slot i) e
 
     good : (i : ℕ) → f (slot i) ≡ true → Good h (key i) (at t.buffers i)
-    good i e = tied.inv.good i (key i) (active-holds (slot i) (act i e))
+    good i e = tied.inv.good i (key i) (active_holds (slot i) (act i e))
 
     placed : (i : ℕ) (e : f (slot i) ≡ true) → place_of (last_stored h (key i)) ≡ (good i e).place
     placed i e = ap place_of (good i e).placed
 
-    waits-at : (i : ℕ) (e : f (slot i) ≡ true) → (p (good i e).place && waits_at h (good i e).place) ≡ true
-    waits-at i e =
+    waits_at_lem : (i : ℕ) (e : f (slot i) ≡ true) → (p (good i e).place && waits_at h (good i e).place) ≡ true
+    waits_at_lem i e =
         let s = (good i e).place in
-        rw (told.of-place (key i) s (good i e).placed ∙ sym (told.of-slot (slot i) (act i e)) ∙ e)
-        (waits (is_stored_at h s) (is_answered_at h s) (is_emptied_at h s) (open-waits h (key i) s ((good i e).opened ∙ act i e) (good i e).placed))
+        rw (told.of_place (key i) s (good i e).placed ∙ sym (told.of_slot (slot i) (act i e)) ∙ e)
+        (waits (is_stored_at h s) (is_answered_at h s) (is_emptied_at h s) (open_waits h (key i) s ((good i e).opened ∙ act i e) (good i e).placed))
 
     spot : (s : ℕ) → p s ≡ true → Opener h s → (i : ℕ) × (f (slot i) ≡ true) × (place_of (last_stored h (key i)) ≡ s)
     spot s named o =
@@ -126,7 +126,7 @@ waiting-count h t tied m f p told = matched f (empty (f Empty) refl) t.buffers (
         let same : key b.0 ≡ o.key = holds-key o.key (slot b.0) b.1 in
         let active : is_active (slot b.0) ≡ true = sym (tied.inv.good b.0 o.key b.1).opened ∙ o.opened in (
           b.0,
-          told.of-slot (slot b.0) active ∙ ap m same ∙ sym (told.of-place o.key s o.placed) ∙ named,
+          told.of_slot (slot b.0) active ∙ ap m same ∙ sym (told.of_place o.key s o.placed) ∙ named,
           ap (λ (k : Key). place_of (last_stored h k)) same ∙ ap place_of o.placed,
         )
 
@@ -135,21 +135,21 @@ waiting-count h t tied m f p told = matched f (empty (f Empty) refl) t.buffers (
         record {
           place = λ i. place_of (last_stored h (key i));
           below = λ i e. rw (placed i e) (subst (λ (o : Option ℕ). Below o (length h)) (good i e).placed (stored-below h (key i)));
-          marked = λ i e. ap (λ (s : ℕ). p s && waits_at h s) (placed i e) ∙ waits-at i e;
+          marked = λ i e. ap (λ (s : ℕ). p s && waits_at h s) (placed i e) ∙ waits_at_lem i e;
           apart = λ i j e g q.
               let same : key i ≡ key j =
               one_key h (key i) (key j) (good i e).place (good i e).placed ((good j g).placed ∙ ap some (sym (placed j g) ∙ (sym q ∙ placed i e))) in
               tied.valid.keys (key j) i j
-              (ap (λ (k : Key). holds k (slot i)) (sym same) ∙ active-holds (slot i) (act i e))
-              (active-holds (slot j) (act j g));
+              (ap (λ (k : Key). holds k (slot i)) (sym same) ∙ active_holds (slot i) (act i e))
+              (active_holds (slot j) (act j g));
           found = λ s l w.
               let two = (and-eq-true_iff (p s) (waits_at h s)).0 w in
               spot s two.0 (opener h s (waiting (is_stored_at h s) (is_answered_at h s) (is_emptied_at h s) two.1));
         }
 
-active-count : (h : History) (t : Translator) → Tied h t → count_to (waits_at h) (length h) ≡ tally is_active t.buffers
-active-count h t tied =
-    waiting-count h t tied (λ k. true) is_active (λ s. true) (record { active = λ s e. e; of-slot = λ s e. e; of-place = λ k s l. refl })
+active_count : (h : History) (t : Translator) → Tied h t → count_to (waits_at h) (length h) ≡ tally is_active t.buffers
+active_count h t tied =
+    waiting_count h t tied (λ k. true) is_active (λ s. true) (record { active = λ s e. e; of_slot = λ s e. e; of_place = λ k s l. refl })
 
 -- ---- what was answered or emptied was stored
 
@@ -177,14 +177,14 @@ stored_is (e ∷ h) k s l = go (asks e.call) l (stored_is h k s)
     go (resets z) l ih = ih l
     go empties l ih = ih l
 
-stays-stored : (h : History) (e : Event) (s : ℕ) → is_stored_at h s ≡ true → is_stored_at (e ∷ h) s ≡ true
+stays_stored : (h : History) (e : Event) (s : ℕ) → is_stored_at h s ≡ true → is_stored_at (e ∷ h) s ≡ true
 unfolding is_stored_at
-stays-stored h e s p = rw p (or-true (stores_it (asks e.call) e.answer h s))
+stays_stored h e s p = rw p (or-true (stores_it (asks e.call) e.answer h s))
 
 answered-stored : (h : History) (s : ℕ) → is_answered_at h s ≡ true → is_stored_at h s ≡ true
 unfolding is_answered_at answers_it
 answered-stored [] s p = absurd (false≢true p)
-answered-stored (e ∷ h) s p = stays-stored h e s (go (asks e.call) p (answered-stored h s))
+answered-stored (e ∷ h) s p = stays_stored h e s (go (asks e.call) p (answered-stored h s))
   where
     go : (x : Asks) → (answers_it x e.answer h s || is_answered_at h s) ≡ true → (is_answered_at h s ≡ true → is_stored_at h s ≡ true) → is_stored_at h s ≡ true
     go nothing p ih = ih p
@@ -192,7 +192,7 @@ answered-stored (e ∷ h) s p = stays-stored h e s (go (asks e.call) p (answered
     go (completes k) p ih = by (gives_result e.answer && is_at (last_stored h k) s) refl p
       where
         by : (t : Bool) → (gives_result e.answer && is_at (last_stored h k) s) ≡ t → (t || is_answered_at h s) ≡ true → is_stored_at h s ≡ true
-        by true q p = stored_is h k s (is-at (last_stored h k) s ((and-eq-true_iff (gives_result e.answer) (is_at (last_stored h k) s)).0 q).1)
+        by true q p = stored_is h k s (is_at_lem (last_stored h k) s ((and-eq-true_iff (gives_result e.answer) (is_at (last_stored h k) s)).0 q).1)
         by false q p = ih p
     go launches p ih = ih p
     go (delivers r y) p ih = ih p
@@ -203,7 +203,7 @@ answered-stored (e ∷ h) s p = stays-stored h e s (go (asks e.call) p (answered
 emptied-stored : (h : History) (s : ℕ) → is_emptied_at h s ≡ true → is_stored_at h s ≡ true
 unfolding is_emptied_at
 emptied-stored [] s p = absurd (false≢true p)
-emptied-stored (e ∷ h) s p = stays-stored h e s (go (empties_it (asks e.call) e.answer h s) (is_stored_at h s) (is_answered_at h s) p (emptied-stored h s))
+emptied-stored (e ∷ h) s p = stays_stored h e s (go (empties_it (asks e.call) e.answer h s) (is_stored_at h s) (is_answered_at h s) p (emptied-stored h s))
   where
     go : (t st an : Bool) → ((t && (st && not an)) || is_emptied_at h s) ≡ true → (is_emptied_at h s ≡ true → st ≡ true) → st ≡ true
     go t true an p ih = refl
@@ -222,21 +222,21 @@ is_complete (clears k) = false
 is_complete (resets z) = false
 is_complete empties = false
 
-pub request-else : (z : Lane) (x : Kind) (v : ℕ) → is_complete (request_asks z x v) ≡ false
-request-else z kind.Unknown v = refl
-request-else z kind.SetConfiguration v = refl
-request-else z kind.GetConfiguration v = refl
-request-else z kind.GetHubDescriptor v = refl
-request-else z kind.GetHubStatus v = refl
-request-else z kind.GetPortStatus v = refl
-request-else z kind.ClearHubFeature v = refl
-request-else z kind.ClearPortFeature v = refl
-request-else z kind.SetPortFeature v = refl
-request-else z kind.ClearTTBuffer v = refl
-request-else z kind.ResetTT v = refl
+pub request_else : (z : Lane) (x : Kind) (v : ℕ) → is_complete (request_asks z x v) ≡ false
+request_else z kind.Unknown v = refl
+request_else z kind.SetConfiguration v = refl
+request_else z kind.GetConfiguration v = refl
+request_else z kind.GetHubDescriptor v = refl
+request_else z kind.GetHubStatus v = refl
+request_else z kind.GetPortStatus v = refl
+request_else z kind.ClearHubFeature v = refl
+request_else z kind.ClearPortFeature v = refl
+request_else z kind.SetPortFeature v = refl
+request_else z kind.ClearTTBuffer v = refl
+request_else z kind.ResetTT v = refl
 
-completes-inj : (k l : Key) → completes k ≡ completes l → k ≡ l
-completes-inj k l e = cc
+completes_inj : (k l : Key) → completes k ≡ completes l → k ≡ l
+completes_inj k l e = cc
 
 -- a complete-split answered 1 or 9 finds its key held
 abbrev Held : Hub → Key → Type 0
@@ -245,19 +245,19 @@ Held hub k = (i : ℕ) × (holds k (at hub.translator.buffers i).slot ≡ true)
 complete-held : (hub : Hub) (c : Call) (k : Key) → asks c ≡ completes k → gives_result (step hub c).answer ≡ true → Held hub k
 unfolding asks served within complete_split
 complete-held hub (Complete z a e d room) k q r =
-    by-checks hub (Complete z a e d room) (λ o. gives_result o.answer ≡ true → Held hub k) (λ r. absurd (false≢true r)) (λ r. absurd (false≢true r))
+    by_checks hub (Complete z a e d room) (λ o. gives_result o.answer ≡ true → Held hub k) (λ r. absurd (false≢true r)) (λ r. absurd (false≢true r))
     (λ r. absurd (false≢true r)) (λ r. absurd (false≢true r))
     (λ n f g.
-    subst (Held hub) (sym (complete-key z a e d n) ∙ completes-inj _ k q)
+    subst (Held hub) (sym (complete-key z a e d n) ∙ completes_inj _ k q)
     (found (find (holds (key_from z a e d)) (take hub.translator.count hub.translator.buffers))
-    (find-says (holds (key_from z a e d)) hub.translator.count hub.translator.buffers) g))
+    (find_says (holds (key_from z a e d)) hub.translator.count hub.translator.buffers) g))
     r
   where
     found : (f : Found) → FindSays (holds (key_from z a e d)) hub.translator.count hub.translator.buffers f
         → gives_result (completed_as hub (complete_at hub.translator f)).answer ≡ true → Held hub (key_from z a e d)
     found Nowhere s r = absurd (false≢true r)
     found (At n) s r = (n.0, s.passes)
-complete-held hub (Control z s room) k q r = absurd (false≢true (sym (request-else (lane_from z) (kind_of (setup_of s).requesttype (setup_of s).code) (setup_of s).value) ∙ ap is_complete q))
+complete-held hub (Control z s room) k q r = absurd (false≢true (sym (request_else (lane_from z) (kind_of (setup_of s).requesttype (setup_of s).code) (setup_of s).value) ∙ ap is_complete q))
 complete-held hub (Poll z room) k q r = absurd (false≢true (ap is_complete q))
 complete-held hub (Start z p t f g a e l) k q r = absurd (false≢true (ap is_complete q))
 complete-held hub (Launch room) k q r = absurd (false≢true (ap is_complete q))
@@ -269,9 +269,9 @@ complete-held hub BusReset k q r = absurd (false≢true (ap is_complete q))
 abbrev pub Never : History → Type 0
 Never h = (s : ℕ) → is_answered_at h s ≡ true → is_emptied_at h s ≡ false
 
-pub never-step : (h : History) (hub : Hub) → Tied h hub.translator → Never h → (c : Call) → Never (ev c (step hub c).answer ∷ h)
+pub never_step : (h : History) (hub : Hub) → Tied h hub.translator → Never h → (c : Call) → Never (ev c (step hub c).answer ∷ h)
 unfolding is_answered_at is_emptied_at answers_it empties_it
-never-step h hub tied never c s p = go (asks c) refl p
+never_step h hub tied never c s p = go (asks c) refl p
   where
     again : (t st an : Bool) → is_answered_at h s ≡ true → an ≡ true → ((t && (st && not an)) || is_emptied_at h s) ≡ false
     again false st an p q = never s p
@@ -285,7 +285,7 @@ never-step h hub tied never c s p = go (asks c) refl p
         g = tied.inv.good i k hd
 
         by : (x : Bool) → is_active (at hub.translator.buffers i).slot ≡ x → is_emptied_at h s ≡ false
-        by true e = (open-waits h k s (g.opened ∙ e) l).not-emptied
+        by true e = (open_waits h k s (g.opened ∙ e) l).not_emptied
         by false e = never s (ap (is_answered_at h) (some_inj (sym l ∙ g.placed)) ∙ g.aged e)
 
     go : (x : Asks) → asks c ≡ x → (answers_it x (step hub c).answer h s || is_answered_at h s) ≡ true
@@ -304,7 +304,7 @@ never-step h hub tied never c s p = go (asks c) refl p
         by true e p =
             let two = (and-eq-true_iff (gives_result (step hub c).answer) (is_at (last_stored h k) s)).0 e in
             let f = complete-held hub c k q two.0 in
-            held k (is-at (last_stored h k) s two.1) f.0 f.1
+            held k (is_at_lem (last_stored h k) s two.1) f.0 f.1
 
 -- ---- the sum
 
@@ -320,14 +320,14 @@ parted false false false a e n = refl
 pub tally-sum : (h : History) (t : Translator) → Tied h t → Never h → (tally_of h).stored ≡ (tally_of h).answered + (tally_of h).emptied + tally is_active t.buffers
 unfolding tally_of
 tally-sum h t tied never =
-    omega (arith, active-count h t tied, count-sum (is_stored_at h) (is_answered_at h) (is_emptied_at h) (waits_at h) (length h) (λ s. parted (is_stored_at h s) (is_answered_at h s) (is_emptied_at h s) (answered-stored h s) (emptied-stored h s) (never s)))
+    omega (arith, active_count h t tied, count_sum (is_stored_at h) (is_answered_at h) (is_emptied_at h) (waits_at h) (length h) (λ s. parted (is_stored_at h s) (is_answered_at h s) (is_emptied_at h s) (answered-stored h s) (emptied-stored h s) (never s)))
 
 tally-after : (cs : List Call) (h : History) (hub : Hub) → Tied h hub.translator → Never h
     → (tally_of (past h (run_from rules hub cs))).stored ≡ (tally_of (past h (run_from rules hub cs))).answered + (tally_of (past h (run_from rules hub cs))).emptied + active_buffers (after_from rules hub cs)
 unfolding run_from after_from past
 tally-after [] h hub tied never = tally-sum h hub.translator tied never
-tally-after (c ∷ cs) h hub tied never = tally-after cs (ev c (step hub c).answer ∷ h) (step hub c).next (step_kept h hub tied c).0 (never-step h hub tied never c)
+tally-after (c ∷ cs) h hub tied never = tally-after cs (ev c (step hub c).answer ∷ h) (step hub c).next (step_kept h hub tied c).0 (never_step h hub tied never c)
 
-pub tally-holds : TallyHolds rules active_buffers
+pub tally_holds : TallyHolds rules active_buffers
 unfolding is_answered_at
-tally-holds n cs = tally-after cs [] (new_hub_of n) (new-tied n) (λ s p. absurd (false≢true p))
+tally_holds n cs = tally-after cs [] (new_hub_of n) (new_tied n) (λ s p. absurd (false≢true p))

@@ -109,7 +109,7 @@ abbrev pub DataExplained : Machine → Type 0
 DataExplained w = (n : w.Made) (cs : List w.Asked) → AllExplained [] (run w n cs)
 
 pub record Demand3 (w : Machine) : Type 0 where
-  pub set-hidden : SetHidden w
-  pub mark-hidden : MarkHidden w
-  pub lane-hidden : LaneHidden w
-  pub data-explained : DataExplained w
+  pub set_hidden : SetHidden w
+  pub mark_hidden : MarkHidden w
+  pub lane_hidden : LaneHidden w
+  pub data_explained : DataExplained w

@@ -159,8 +159,8 @@ pub record HidingMistakesShutOut : Type 0 where
   pub shown : (f : Field) (put : ℕ → Answer → Answer) → Puts f put → ¬ (MarkHidden (showing put))
   -- as the byte of an answer to any call but launches and complete-splits: a poll, say
   pub given : (p : Call → Bool) (c : Call) → p c ≡ true → is_other c ≡ true → ¬ (MarkHidden (ruled (given_to p)))
-  pub size-shown : ¬ (MarkHidden (altered size_shows))
-  pub wrong-payload : ¬ (MarkHidden (altered wrong_payload))
-  pub memory-shown : (f : Field) (put : ℕ → Answer → Answer) → Puts f put → ¬ (MarkHidden (memory_shows put))
-  pub other-pid : ¬ (DataExplained (altered other_pid))
-  pub second-result : ¬ (DataExplained (ruled second_result))
+  pub size_shown : ¬ (MarkHidden (altered size_shows))
+  pub wrong_payload_lem : ¬ (MarkHidden (altered wrong_payload))
+  pub memory_shown : (f : Field) (put : ℕ → Answer → Answer) → Puts f put → ¬ (MarkHidden (memory_shows put))
+  pub other_pid_lem : ¬ (DataExplained (altered other_pid))
+  pub second_result_lem : ¬ (DataExplained (ruled second_result))

@@ -61,9 +61,9 @@ abbrev pub limit_first : ℕ → Key → List Buffer → Choice
 limit_first b k bs = cond (may_store b (held_by k.lane bs)) (chosen k bs) LimitReached
 
 pub record LaneMistakesShutOut : Type 0 where
-  pub without-lanes : ¬ (LaneHidden (altered without_lanes))
-  pub both-emptied : ¬ (TallyHolds (altered both_emptied) active_buffers)
-  pub no-limit : ¬ (LaneShare (altered (starting_by no_limit)))
-  pub old-count : ¬ (LaneShare (altered (starting_by old_count)))
-  pub own-old-passes : ¬ (LaneShare (altered (starting_by own_old_passes)))
-  pub limit-first : ¬ (Refusals (step_by (starting_by limit_first)))
+  pub without_lanes_lem : ¬ (LaneHidden (altered without_lanes))
+  pub both_emptied_lem : ¬ (TallyHolds (altered both_emptied) active_buffers)
+  pub no_limit_lem : ¬ (LaneShare (altered (starting_by no_limit)))
+  pub old_count_lem : ¬ (LaneShare (altered (starting_by old_count)))
+  pub own_old_passes_lem : ¬ (LaneShare (altered (starting_by own_old_passes)))
+  pub limit_first_lem : ¬ (Refusals (step_by (starting_by limit_first)))

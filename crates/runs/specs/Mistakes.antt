@@ -84,10 +84,10 @@ latest_first = with_launch (λ t. launch_at t (pass latter 0 NonePending (take t
 -- each mistake falsifies the claim that is to shut it out
 pub record MistakesShutOut : Type 0 where
   -- with no mistake they are the rules
-  pub own-served : OwnServed
-  pub late-result : ¬ (DataExplained (altered late_result))
-  pub late-result-shows : ¬ (MarkHidden (altered late_result))
-  pub without-direction : ¬ (DataExplained (altered without_direction))
-  pub longer-tail : ¬ (DataExplained (altered longer_tail))
-  pub places-twice : ¬ (LaunchOrder (altered places_twice))
-  pub latest-first : ¬ (LaunchOrder (altered latest_first))
+  pub own_served : OwnServed
+  pub late_result_lem : ¬ (DataExplained (altered late_result))
+  pub late_result_shows : ¬ (MarkHidden (altered late_result))
+  pub without_direction_lem : ¬ (DataExplained (altered without_direction))
+  pub longer_tail_lem : ¬ (DataExplained (altered longer_tail))
+  pub places_twice_lem : ¬ (LaunchOrder (altered places_twice))
+  pub latest_first_lem : ¬ (LaunchOrder (altered latest_first))

@@ -115,11 +115,11 @@ pub record OrderMistakesShutOut : Type 0 where
   -- 3 only where none is pending
   pub first_alone_lem : ¬ (LaunchOrder (altered first_alone))
   -- the toggle given is the start-split's
-  pub toggle-inverted : ¬ (LaunchOrder (altered (answered_as inverted_toggle)))
+  pub toggle_inverted : ¬ (LaunchOrder (altered (answered_as inverted_toggle)))
   -- the direction given is IN for PID IN and OUT for the other two
-  pub always-out : ¬ (LaunchOrder (ruled (redirected_step always_out)))
-  pub two-for-out : ¬ (LaunchOrder (ruled (redirected_step two_for_out)))
+  pub always_out_lem : ¬ (LaunchOrder (ruled (redirected_step always_out)))
+  pub two_for_out_lem : ¬ (LaunchOrder (ruled (redirected_step two_for_out)))
   -- 8 where the low side is occupied
-  pub clear-frees : ¬ (LaunchOrder (altered clear_frees))
+  pub clear_frees_lem : ¬ (LaunchOrder (altered clear_frees))
   -- and nowhere else
-  pub eight-idle : ¬ (LaunchOrder (altered (answered_as occupied_if_none)))
+  pub eight_idle : ¬ (LaunchOrder (altered (answered_as occupied_if_none)))

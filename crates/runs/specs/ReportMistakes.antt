@@ -21,8 +21,8 @@ with_events rule =
     plain (with_port_at h m (rule p (input.Event e))) (line_event p e).number))
 
 pub record ReportMistakesShutOut : Type 0 where
-  pub before-C-12 : ¬ (ErrorReports (with_events before_c12))
-  pub by-detach : ¬ (ErrorReports (with_events (also_where (ended_by (only detach)))))
-  pub by-over-current : ¬ (ErrorReports (with_events (also_where (ended_by (only over_current)))))
+  pub before_C_12 : ¬ (ErrorReports (with_events before_c12))
+  pub by_detach : ¬ (ErrorReports (with_events (also_where (ended_by (only detach)))))
+  pub by_over_current : ¬ (ErrorReports (with_events (also_where (ended_by (only over_current)))))
   -- a port error that the host doesn't see
   pub never : ¬ (ErrorReports (with_events unreported))

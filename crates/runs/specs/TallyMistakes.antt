@@ -36,5 +36,5 @@ abbrev pub emptied_answers : TranslatorRules
 emptied_answers = with_clear (λ t k. clear_shut t (find (holds k) (take t.count t.buffers)))
 
 pub record TallyMistakesShutOut : Type 0 where
-  pub given-stays-ready : ¬ (TallyHolds (altered given_stays_ready) active_buffers)
-  pub emptied-answers : ¬ (TallyHolds (altered emptied_answers) active_buffers)
+  pub given_stays_ready_lem : ¬ (TallyHolds (altered given_stays_ready) active_buffers)
+  pub emptied_answers_lem : ¬ (TallyHolds (altered emptied_answers) active_buffers)

@@ -31,19 +31,19 @@ module _ (bs : List Buffer) (i : ℕ) (b : Buffer) (here : i < length bs) where
   pub at_other : (j : ℕ) → ¬ (j ≡ i) → at (set bs i b) j ≡ at bs j
   at_other j ne = get_or-set_other bs i j b vacant ne
 
-  pub at-cases : (P : Buffer → Type 0) (j : ℕ) → (j ≡ i → P b) → (¬ (j ≡ i) → P (at bs j)) → P (at (set bs i b) j)
-  at-cases P j same other = go (ℕ_discrete j i)
+  pub at_cases : (P : Buffer → Type 0) (j : ℕ) → (j ≡ i → P b) → (¬ (j ≡ i) → P (at bs j)) → P (at (set bs i b) j)
+  at_cases P j same other = go (ℕ_discrete j i)
     where
       go : Dec (j ≡ i) → P (at (set bs i b) j)
       go (yes e) = subst P (sym at_same ∙ ap (at (set bs i b)) (sym e)) (same e)
       go (no ne) = subst P (sym (at_other j ne)) (other ne)
 
   -- a test that no two buffers pass still is one, where no other passes it with the new one
-  pub apart-set : (f : Slot → Bool) → Apart f bs → (f b.slot ≡ true → (j : ℕ) → f (at bs j).slot ≡ true → j ≡ i) → Apart f (set bs i b)
-  apart-set f apart only j l =
-      at-cases (λ (x : Buffer). f x.slot ≡ true → f (at (set bs i b) l).slot ≡ true → j ≡ l) j
-      (λ e. at-cases (λ (y : Buffer). f b.slot ≡ true → f y.slot ≡ true → j ≡ l) l (λ g p q. e ∙ sym g) (λ ng p q. e ∙ sym (only p l q)))
-      (λ ne. at-cases (λ (y : Buffer). f (at bs j).slot ≡ true → f y.slot ≡ true → j ≡ l) l (λ g p q. only q j p ∙ sym g) (λ ng p q. apart j l p q))
+  pub apart_set : (f : Slot → Bool) → Apart f bs → (f b.slot ≡ true → (j : ℕ) → f (at bs j).slot ≡ true → j ≡ i) → Apart f (set bs i b)
+  apart_set f apart only j l =
+      at_cases (λ (x : Buffer). f x.slot ≡ true → f (at (set bs i b) l).slot ≡ true → j ≡ l) j
+      (λ e. at_cases (λ (y : Buffer). f b.slot ≡ true → f y.slot ≡ true → j ≡ l) l (λ g p q. e ∙ sym g) (λ ng p q. e ∙ sym (only p l q)))
+      (λ ne. at_cases (λ (y : Buffer). f (at bs j).slot ≡ true → f y.slot ≡ true → j ≡ l) l (λ g p q. only q j p ∙ sym g) (λ ng p q. apart j l p q))
 
 -- a buffer by its number, where each was changed and an empty one stays as it is
 at_map : (g : Buffer → Buffer) → g vacant ≡ vacant → (bs : List Buffer) (i : ℕ) → at (map g bs) i ≡ g (at bs i)
@@ -51,8 +51,8 @@ at_map g e [] i = sym e
 at_map g e (b ∷ bs) zero = refl
 at_map g e (b ∷ bs) (suc i) = at_map g e bs i
 
-pub at-without-lane : (l : Lane) (bs : List Buffer) (i : ℕ) → at (map (without_lane l) bs) i ≡ without_lane l (at bs i)
-at-without-lane l = at_map (without_lane l) refl
+pub at-without_lane : (l : Lane) (bs : List Buffer) (i : ℕ) → at (map (without_lane l) bs) i ≡ without_lane l (at bs i)
+at-without_lane l = at_map (without_lane l) refl
 
 pub at-ranked : (bs : List Buffer) (i : ℕ) → at (ranked bs) i ≡ ranked_in bs (at bs i)
 unfolding ranked
@@ -69,32 +69,32 @@ holds-reranked bs k (Pending s p) = refl
 holds-reranked bs k (Ready s r) = refl
 holds-reranked bs k (Old s r) = refl
 
-pub active-in-reranked : (bs : List Buffer) (l : Lane) (s : Slot) → active_in l (reranked bs s) ≡ active_in l s
-active-in-reranked bs l Empty = refl
-active-in-reranked bs l (Pending s p) = refl
-active-in-reranked bs l (Ready s r) = refl
-active-in-reranked bs l (Old s r) = refl
+pub active_in_reranked : (bs : List Buffer) (l : Lane) (s : Slot) → active_in l (reranked bs s) ≡ active_in l s
+active_in_reranked bs l Empty = refl
+active_in_reranked bs l (Pending s p) = refl
+active_in_reranked bs l (Ready s r) = refl
+active_in_reranked bs l (Old s r) = refl
 
-pub pending-reranked : (bs : List Buffer) (s : Slot) → is_pending (reranked bs s) ≡ is_pending s
-pending-reranked bs Empty = refl
-pending-reranked bs (Pending s p) = refl
-pending-reranked bs (Ready s r) = refl
-pending-reranked bs (Old s r) = refl
+pub pending_reranked : (bs : List Buffer) (s : Slot) → is_pending (reranked bs s) ≡ is_pending s
+pending_reranked bs Empty = refl
+pending_reranked bs (Pending s p) = refl
+pending_reranked bs (Ready s r) = refl
+pending_reranked bs (Old s r) = refl
 
 -- what is not pending has no place to be numbered
-pub reranked-idle : (bs : List Buffer) (s : Slot) → is_pending s ≡ false → reranked bs s ≡ s
-reranked-idle bs Empty e = refl
-reranked-idle bs (Pending s p) e = absurd (true≢false e)
-reranked-idle bs (Ready s r) e = refl
-reranked-idle bs (Old s r) e = refl
+pub reranked_idle : (bs : List Buffer) (s : Slot) → is_pending s ≡ false → reranked bs s ≡ s
+reranked_idle bs Empty e = refl
+reranked_idle bs (Pending s p) e = absurd (true≢false e)
+reranked_idle bs (Ready s r) e = refl
+reranked_idle bs (Old s r) e = refl
 
 -- ---- the place of a buffer
 
-pub placed-pending : (p : ℕ) (s : Slot) → at_place p s ≡ true → is_pending s ≡ true
-placed-pending p Empty e = e
-placed-pending p (Pending s r) e = refl
-placed-pending p (Ready s r) e = e
-placed-pending p (Old s r) e = e
+pub placed_pending : (p : ℕ) (s : Slot) → at_place p s ≡ true → is_pending s ≡ true
+placed_pending p Empty e = e
+placed_pending p (Pending s r) e = refl
+placed_pending p (Ready s r) e = e
+placed_pending p (Old s r) e = e
 
 pub only-place : (p q : ℕ) (s : Slot) → at_place p s ≡ true → at_place q s ≡ true → p ≡ q
 only-place p q Empty e f = absurd (false≢true e)

@@ -25,11 +25,11 @@ use Rattle.translator.specs.OnePass.{choice_of}
 use Rattle.translator.proofs.Search.{looking, pass-permitted}
 
 -- the first n of the buffers without payloads
-cut-bare : (n : ℕ) (bs : List Buffer) → take n (bare (slots_in bs)) ≡ bare (slots_in (take n bs))
+cut_bare : (n : ℕ) (bs : List Buffer) → take n (bare (slots_in bs)) ≡ bare (slots_in (take n bs))
 unfolding bare
-cut-bare zero bs = refl
-cut-bare (suc n) [] = refl
-cut-bare (suc n) (b ∷ bs) = ap (λ (l : List Buffer). record { slot = b.slot; payload = no_payload } ∷ l) (cut-bare n bs)
+cut_bare zero bs = refl
+cut_bare (suc n) [] = refl
+cut_bare (suc n) (b ∷ bs) = ap (λ (l : List Buffer). record { slot = b.slot; payload = no_payload } ∷ l) (cut_bare n bs)
 
 -- one fact for all: what is made slot by slot is the same without payloads
 module _ {C : Type 0} (g : List Buffer → C) (step : Slot → C → C) (steps : (b : Buffer) (bs : List Buffer) → g (b ∷ bs) ≡ step b.slot (g bs)) where
@@ -38,12 +38,12 @@ module _ {C : Type 0} (g : List Buffer → C) (step : Slot → C → C) (steps :
   by_slots [] = refl
   by_slots (b ∷ bs) = steps (record { slot = b.slot; payload = no_payload }) (bare (slots_in bs)) ∙ ap (step b.slot) (by_slots bs) ∙ sym (steps b bs)
 
-  by-first-slots : (n : ℕ) (bs : List Buffer) → g (take n (bare (slots_in bs))) ≡ g (take n bs)
-  by-first-slots n bs = ap g (cut-bare n bs) ∙ by_slots (take n bs)
+  by_first_slots : (n : ℕ) (bs : List Buffer) → g (take n (bare (slots_in bs))) ≡ g (take n bs)
+  by_first_slots n bs = ap g (cut_bare n bs) ∙ by_slots (take n bs)
 
 pub find-bare : (p : Slot → Bool) (n : ℕ) (bs : List Buffer) → find p (take n (bare (slots_in bs))) ≡ find p (take n bs)
 unfolding find
-find-bare p = by-first-slots (find p) (λ (s : Slot) (f : Found). cond (p s) (At (record { 0 = 0 })) (later f)) (λ b bs. refl)
+find-bare p = by_first_slots (find p) (λ (s : Slot) (f : Found). cond (p s) (At (record { 0 = 0 })) (later f)) (λ b bs. refl)
 
 -- the order of acceptance
 tally-bare : (f : Slot → Bool) (bs : List Buffer) → tally f (bare (slots_in bs)) ≡ tally f bs
@@ -62,7 +62,7 @@ pass-bare : {C : Type 0} (f : C → Slot → BufferNumber → C) (c : C) (n : �
 unfolding pass
 pass-bare {C} f c n bs =
     ap (λ (k : ℕ → C → C). k 0 c)
-    (by-first-slots (λ (l : List Buffer) (i : ℕ) (c : C). pass f i c l)
+    (by_first_slots (λ (l : List Buffer) (i : ℕ) (c : C). pass f i c l)
     (λ (s : Slot) (k : ℕ → C → C) (i : ℕ) (c : C). k (suc i) (f c s (record { 0 = i })))
     (λ b bs. refl) n bs)
 

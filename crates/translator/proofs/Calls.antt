@@ -49,16 +49,16 @@ use Rattle.translator.specs.Launch.{launched, launch_at, launch_by, launch}
 use Rattle.translator.specs.Deliver.{undelivered, delivered, deliver_by, deliver}
 use Rattle.translator.specs.Answers.{is_refusal, start_number, result_number, complete_number, launch_number, deliver_number}
 use Rattle.translator.specs.Claims.{RefusedSame, LaunchesEarliest, Last, StoredLast, SameAgain, OldKept, AbandonedDropped, LaneLimit, LaneReset}
-use Rattle.translator.proofs.At.{inside, at_same, at_other, at-ranked, length-ranked, reranked-idle, at-without-lane}
-use Rattle.translator.proofs.Finding.{FindSays, find-says, ChosenSays, chosen-says, may-store, may-not-store, PermittedSays, permitted-says, First, EarliestSays, earliest-says}
+use Rattle.translator.proofs.At.{inside, at_same, at_other, at-ranked, length-ranked, reranked_idle, at-without_lane}
+use Rattle.translator.proofs.Finding.{FindSays, find_says, ChosenSays, chosen_says, may_store_lem, may_not_store, PermittedSays, permitted_says, First, EarliestSays, earliest_says}
 use Rattle.translator.proofs.Ranks.{rank_below, ranked-place}
-use Rattle.translator.proofs.Kept.{in_use, no-repeat}
+use Rattle.translator.proofs.Kept.{in_use, no_repeat}
 
 -- ---- a refused call leaves the translator as it was
 
-start-same : (t : Translator) (s : StartSplit) (l : List ℕ) → is_refusal (start_number (start_split t s l).answer) ≡ true → (start_split t s l).next ≡ t
+start_same : (t : Translator) (s : StartSplit) (l : List ℕ) → is_refusal (start_number (start_split t s l).answer) ≡ true → (start_split t s l).next ≡ t
 unfolding start_split
-start-same t s l = go (start_fits s (length l)) (permitted t.count (key_of s) (take t.count t.buffers))
+start_same t s l = go (start_fits s (length l)) (permitted t.count (key_of s) (take t.count t.buffers))
   where
     Same : Started → Type 0
     Same o = is_refusal (start_number o.answer) ≡ true → o.next ≡ t
@@ -71,17 +71,17 @@ start-same t s l = go (start_fits s (length l)) (permitted t.count (key_of s) (t
     go true (Took n) e = absurd (false≢true e)
     go false c e = refl
 
-result-served : (r : DeviceResult) → is_refusal (result_number r) ≡ false
-result-served result.Failure = refl
-result-served result.Ack = refl
-result-served result.Nak = refl
-result-served result.Stall = refl
-result-served result.Data0 = refl
-result-served result.Data1 = refl
+result_served : (r : DeviceResult) → is_refusal (result_number r) ≡ false
+result_served result.Failure = refl
+result_served result.Ack = refl
+result_served result.Nak = refl
+result_served result.Stall = refl
+result_served result.Data0 = refl
+result_served result.Data1 = refl
 
-complete-same : (t : Translator) (k : Key) → is_refusal (complete_number (complete_split t k).answer) ≡ true → (complete_split t k).next ≡ t
+complete_same : (t : Translator) (k : Key) → is_refusal (complete_number (complete_split t k).answer) ≡ true → (complete_split t k).next ≡ t
 unfolding complete_split
-complete-same t k = go (find (holds k) (take t.count t.buffers))
+complete_same t k = go (find (holds k) (take t.count t.buffers))
   where
     Same : Completed → Type 0
     Same o = is_refusal (complete_number o.answer) ≡ true → o.next ≡ t
@@ -89,16 +89,16 @@ complete-same t k = go (find (holds k) (take t.count t.buffers))
     slot : (n : BufferNumber) (s : Slot) → Same (completed t n (at t.buffers n.0).payload s)
     slot n Empty e = refl
     slot n (Pending s p) e = refl
-    slot n (Ready s r) e = absurd (true≢false (sym e ∙ result-served r))
+    slot n (Ready s r) e = absurd (true≢false (sym e ∙ result_served r))
     slot n (Old s r) e = refl
 
     go : (f : Found) → Same (complete_at t f)
     go Nowhere e = refl
     go (At n) e = slot n (at t.buffers n.0).slot e
 
-launch-same : (t : Translator) → is_refusal (launch_number (launch t).answer) ≡ true → (launch t).next ≡ t
+launch_same : (t : Translator) → is_refusal (launch_number (launch t).answer) ≡ true → (launch t).next ≡ t
 unfolding launch
-launch-same t = go t.low
+launch_same t = go t.low
   where
     Same : Launched → Type 0
     Same o = is_refusal (launch_number o.answer) ≡ true → o.next ≡ t
@@ -118,9 +118,9 @@ launch-same t = go t.low
     go (Running n) e = refl
     go Abandoned e = refl
 
-deliver-same : (t : Translator) (r : DeviceResult) (l : List ℕ) → is_refusal (deliver_number (deliver t r l).answer) ≡ true → (deliver t r l).next ≡ t
+deliver_same : (t : Translator) (r : DeviceResult) (l : List ℕ) → is_refusal (deliver_number (deliver t r l).answer) ≡ true → (deliver t r l).next ≡ t
 unfolding deliver
-deliver-same t r l = go (result_length r (length l)) t.low
+deliver_same t r l = go (result_length r (length l)) t.low
   where
     Same : Delivered → Type 0
     Same o = is_refusal (deliver_number o.answer) ≡ true → o.next ≡ t
@@ -141,14 +141,14 @@ deliver-same t r l = go (result_length r (length l)) t.low
     go true Abandoned e = absurd (false≢true e)
     go false low e = refl
 
-pub refused-same : RefusedSame
-refused-same = record { start = start-same; complete = complete-same; launched = launch-same; delivered = deliver-same }
+pub refused_same : RefusedSame
+refused_same = record { start = start_same; complete = complete_same; launched = launch_same; delivered = deliver_same }
 
 -- ---- a delivery while abandoned
 
-pub abandoned-dropped : AbandonedDropped
+pub abandoned_dropped : AbandonedDropped
 unfolding deliver
-abandoned-dropped t r l e =
+abandoned_dropped t r l e =
     elim (result_length r (length l)) as (λ x. (cond x (deliver_by t r l t.low) (undelivered t answer.Outside)).next.buffers ≡ t.buffers) [
       | true ↦ rw e
       | false ↦ refl
@@ -185,9 +185,9 @@ StartedAs t s l (start.Chosen (Held n)) u = u ≡ t
 StartedAs t s l (start.Chosen (Reused n)) u = (n.0 < length t.buffers) × (u ≡ stored t n s l)
 StartedAs t s l (start.Chosen (Took n)) u = (n.0 < length t.buffers) × (u ≡ stored t n s l)
 
-pub started-as : (t : Translator) (s : StartSplit) (l : List ℕ) → StartedAs t s l (start_split t s l).answer (start_split t s l).next
+pub started_as_lem : (t : Translator) (s : StartSplit) (l : List ℕ) → StartedAs t s l (start_split t s l).answer (start_split t s l).next
 unfolding start_split
-started-as t s l = go (start_fits s (length l)) (permitted t.count (key_of s) (take t.count t.buffers)) (permitted-says t.count (key_of s) t.count t.buffers)
+started_as_lem t s l = go (start_fits s (length l)) (permitted t.count (key_of s) (take t.count t.buffers)) (permitted_says t.count (key_of s) t.count t.buffers)
   where
     As : Started → Type 0
     As o = StartedAs t s l o.answer o.next
@@ -203,8 +203,8 @@ started-as t s l = go (start_fits s (length l)) (permitted t.count (key_of s) (t
 pub stored_last : StoredLast
 stored_last =
     record {
-      reused = λ t s l n e. let x = subst (λ a. StartedAs t s l a (start_split t s l).next) e (started-as t s l) in last_stored t s l n x.0 x.1;
-      took = λ t s l n e. let x = subst (λ a. StartedAs t s l a (start_split t s l).next) e (started-as t s l) in last_stored t s l n x.0 x.1;
+      reused = λ t s l n e. let x = subst (λ a. StartedAs t s l a (start_split t s l).next) e (started_as_lem t s l) in last_stored t s l n x.0 x.1;
+      took = λ t s l n e. let x = subst (λ a. StartedAs t s l a (start_split t s l).next) e (started_as_lem t s l) in last_stored t s l n x.0 x.1;
     }
 
 -- ---- a launch gives the earliest
@@ -225,10 +225,10 @@ LaunchedAs t (Launches s) o = EarliestLaunched t s o
 
 module _ (t : Translator) (v : ValidTranslator t) where
   long : length (take t.count t.buffers) ≡ t.count
-  long = length-take t.count t.buffers ∙ min-left
+  long = length-take t.count t.buffers ∙ min_left
     where
-      min-left : min t.count (length t.buffers) ≡ t.count
-      min-left = omega (arith, v.most, v.four)
+      min_left : min t.count (length t.buffers) ≡ t.count
+      min_left = omega (arith, v.most, v.four)
 
   -- what holds of the buffers in use holds of all
   same_at : (j : ℕ) → j < t.count → at (take t.count t.buffers) j ≡ at t.buffers j
@@ -267,26 +267,26 @@ module _ (t : Translator) (v : ValidTranslator t) where
             payload = refl;
           }
 
-  pub launched-as : LaunchedAs t (launch t).answer (launch t)
+  pub launched_as_lem : LaunchedAs t (launch t).answer (launch t)
   unfolding launch
-  launched-as = go t.low
+  launched_as_lem = go t.low
     where
       found : (e : Earliest) → EarliestSays (take t.count t.buffers) (length (take t.count t.buffers)) e → LaunchedAs t (launch_at t e).answer (launch_at t e)
       found NonePending says = nothing says
       found (Stored n p) says = slot n p says (at t.buffers n.0).slot refl
 
       go : (l : LowSide) → LaunchedAs t (launch_by t l).answer (launch_by t l)
-      go Idle = found (earliest (take t.count t.buffers)) (earliest-says (take t.count t.buffers))
+      go Idle = found (earliest (take t.count t.buffers)) (earliest_says (take t.count t.buffers))
       go (Running n) = tt
       go Abandoned = tt
 
-pub launches-earliest : LaunchesEarliest
-launches-earliest =
+pub launches_earliest : LaunchesEarliest
+launches_earliest =
     record {
       gives = λ t s v e.
-          let g : EarliestLaunched t s (launch t) = subst (λ a. LaunchedAs t a (launch t)) e (launched-as t v) in
+          let g : EarliestLaunched t s (launch t) = subst (λ a. LaunchedAs t a (launch t)) e (launched_as_lem t v) in
           record { number = g.number; place = g.place; pending = g.pending; least = g.least; runs = ap (λ (x : Translator). x.low) g.next; payload = g.payload };
-      nothing = λ t v e. subst (λ a. LaunchedAs t a (launch t)) e (launched-as t v);
+      nothing = λ t v e. subst (λ a. LaunchedAs t a (launch t)) e (launched_as_lem t v);
     }
 
 -- ---- the same answer again
@@ -298,9 +298,9 @@ find-set f (suc m) [] i b h e = refl
 find-set f (suc m) (c ∷ bs) zero b h e = rw e
 find-set f (suc m) (c ∷ bs) (suc i) b h e = ap (λ (x : Found). cond (f c.slot) (At (record { 0 = 0 })) (later x)) (find-set f m bs i b (omega (arith, h)) e)
 
-pub same-again : SameAgain
+pub same_again : SameAgain
 unfolding complete_split
-same-again t k = go (find (holds k) (take t.count t.buffers)) refl (find-says (holds k) t.count t.buffers)
+same_again t k = go (find (holds k) (take t.count t.buffers)) refl (find_says (holds k) t.count t.buffers)
   where
     Again : Completed → Type 0
     Again o = complete_at o.next (find (holds k) (take o.next.count o.next.buffers)) ≡ o
@@ -320,16 +320,16 @@ same-again t k = go (find (holds k) (take t.count t.buffers)) refl (find-says (h
 
 -- ---- old buffers
 
-old-start : (t : Translator) (s o : StartSplit) (r : DeviceResult) (l : List ℕ) (i : ℕ) → (at t.buffers i).slot ≡ Old o r
+old_start : (t : Translator) (s o : StartSplit) (r : DeviceResult) (l : List ℕ) (i : ℕ) → (at t.buffers i).slot ≡ Old o r
     → ¬ ((start_split t s l).answer ≡ start.Chosen (Reused (record { 0 = i }))) → ¬ ((start_split t s l).answer ≡ start.Chosen (Took (record { 0 = i })))
     → at (start_split t s l).next.buffers i ≡ at t.buffers i
 unfolding stored
-old-start t s o r l i e nr nt = go (start_split t s l).answer refl (started-as t s l)
+old_start t s o r l i e nr nt = go (start_split t s l).answer refl (started_as_lem t s l)
   where
     other : (n : BufferNumber) → n.0 < length t.buffers → ¬ (i ≡ n.0) → at (stored t n s l).buffers i ≡ at t.buffers i
     other n h ne =
         at_other (ranked t.buffers) n.0 (record { slot = Pending s (waiting t.buffers); payload = payload_of l }) (subst (λ (m : ℕ). n.0 < m) (sym (length-ranked t.buffers)) h) i ne
-        ∙ (at-ranked t.buffers i ∙ ap (λ (x : Slot). record { slot = x; payload = (at t.buffers i).payload }) (reranked-idle t.buffers (at t.buffers i).slot (ap is_pending e)))
+        ∙ (at-ranked t.buffers i ∙ ap (λ (x : Slot). record { slot = x; payload = (at t.buffers i).payload }) (reranked_idle t.buffers (at t.buffers i).slot (ap is_pending e)))
 
     go : (a : StartAnswer) → (start_split t s l).answer ≡ a → StartedAs t s l a (start_split t s l).next → at (start_split t s l).next.buffers i ≡ at t.buffers i
     go start.Outside f x = ap (λ (u : Translator). at u.buffers i) x
@@ -340,9 +340,9 @@ old-start t s o r l i e nr nt = go (start_split t s l).answer refl (started-as t
     go (start.Chosen (Took n)) f x = ap (λ (u : Translator). at u.buffers i) x.1 ∙ other n x.0 (λ q. nt (rw q f))
 
 -- a call that leaves buffer n or changes it where it was not old
-old-else : (t : Translator) (o : StartSplit) (r : DeviceResult) (i : ℕ) → (at t.buffers i).slot ≡ Old o r → (n : BufferNumber) (b : Buffer) (f : Slot → Bool)
+old_else : (t : Translator) (o : StartSplit) (r : DeviceResult) (i : ℕ) → (at t.buffers i).slot ≡ Old o r → (n : BufferNumber) (b : Buffer) (f : Slot → Bool)
     → f (at t.buffers n.0).slot ≡ true → f (Old o r) ≡ false → n.0 < length t.buffers → at (set t.buffers n.0 b) i ≡ at t.buffers i
-old-else t o r i e n b f yes-n no_old h =
+old_else t o r i e n b f yes-n no_old h =
     at_other t.buffers n.0 b h i (λ q. true≢false (sym yes-n ∙ (ap (λ (x : ℕ). f (at t.buffers x).slot) (sym q) ∙ (ap f e ∙ no_old))))
 
 is_ready : Slot → Bool
@@ -354,7 +354,7 @@ is_ready (Old s r) = false
 old-complete : (t : Translator) (k : Key) (o : StartSplit) (r : DeviceResult) (i : ℕ) → (at t.buffers i).slot ≡ Old o r
     → at (complete_split t k).next.buffers i ≡ at t.buffers i
 unfolding complete_split is_ready
-old-complete t k o r i e = go (find (holds k) (take t.count t.buffers)) (find-says (holds k) t.count t.buffers)
+old-complete t k o r i e = go (find (holds k) (take t.count t.buffers)) (find_says (holds k) t.count t.buffers)
   where
     go : (f : Found) → FindSays (holds k) t.count t.buffers f → at (complete_at t f).next.buffers i ≡ at t.buffers i
     go Nowhere x = refl
@@ -363,7 +363,7 @@ old-complete t k o r i e = go (find (holds k) (take t.count t.buffers)) (find-sa
         slot : (s : Slot) → (at t.buffers n.0).slot ≡ s → at (completed t n (at t.buffers n.0).payload s).next.buffers i ≡ at t.buffers i
         slot Empty g = refl
         slot (Pending s p) g = refl
-        slot (Ready s y) g = old-else t o r i e n (record { slot = Old s y; payload = (at t.buffers n.0).payload }) is_ready (ap is_ready g) refl x.inside
+        slot (Ready s y) g = old_else t o r i e n (record { slot = Old s y; payload = (at t.buffers n.0).payload }) is_ready (ap is_ready g) refl x.inside
         slot (Old s y) g = refl
 
 old-launch : (t : Translator) (i : ℕ) → at (launch t).next.buffers i ≡ at t.buffers i
@@ -400,7 +400,7 @@ old-deliver t x l o r i e = go (result_length x (length l)) t.low
         b = record { slot = Ready s x; payload = payload_of l }
 
         by : (y : Bool) → at (cond y (record { next = record { buffers = set t.buffers n.0 b; count = t.count; low = Idle }; answer = answer.Done }) (undelivered t answer.NotInThisState)).next.buffers i ≡ at t.buffers i
-        by true = old-else t o r i e n b is_pending (ap is_pending g) refl (inside is_pending refl t.buffers n.0 (ap is_pending g))
+        by true = old_else t o r i e n b is_pending (ap is_pending g) refl (inside is_pending refl t.buffers n.0 (ap is_pending g))
         by false = refl
 
     go : (y : Bool) (low : LowSide) → at (cond y (deliver_by t x l low) (undelivered t answer.Outside)).next.buffers i ≡ at t.buffers i
@@ -409,8 +409,8 @@ old-deliver t x l o r i e = go (result_length x (length l)) t.low
     go true Abandoned = refl
     go false low = refl
 
-pub old-kept : OldKept
-old-kept = record { start = old-start; complete = old-complete; launched = old-launch; delivered = old-deliver }
+pub old_kept : OldKept
+old_kept = record { start = old_start; complete = old-complete; launched = old-launch; delivered = old-deliver }
 
 -- ---- the limit of a lane
 
@@ -423,35 +423,35 @@ LimitAs t s (start.Chosen (Held n)) = Unit {0}
 LimitAs t s (start.Chosen (Reused n)) = Unit {0}
 LimitAs t s (start.Chosen (Took n)) = Unit {0}
 
-limit-as : (t : Translator) (s : StartSplit) (l : List ℕ) → ValidTranslator t → LimitAs t s (start_split t s l).answer
+limit_as : (t : Translator) (s : StartSplit) (l : List ℕ) → ValidTranslator t → LimitAs t s (start_split t s l).answer
 unfolding start_split
-limit-as t s l v = go (start_fits s (length l)) (permitted t.count (key_of s) (take t.count t.buffers)) (permitted-says t.count (key_of s) t.count t.buffers)
+limit_as t s l v = go (start_fits s (length l)) (permitted t.count (key_of s) (take t.count t.buffers)) (permitted_says t.count (key_of s) t.count t.buffers)
   where
     go : (x : Bool) (c : Choice) → PermittedSays t.count (key_of s) t.count t.buffers c
         → LimitAs t s (cond x (start_by t s l c) (record { next = t; answer = start.Outside })).answer
     go true NoRoom r = tt
-    go true LimitReached r = (may-not-store t s.lane r.full, no-repeat t v (key_of s) r.wanted r.says r.unheld)
+    go true LimitReached r = (may_not_store t s.lane r.full, no_repeat t v (key_of s) r.wanted r.says r.unheld)
     go true (Held n) r = tt
     go true (Reused n) r = tt
     go true (Took n) r = tt
     go false c r = tt
 
-at-limit : (t : Translator) (s : StartSplit) (l : List ℕ) → ValidTranslator t → start_fits s (length l) ≡ true → AtLimit s.lane t → NoRepeat (key_of s) t
+at_limit : (t : Translator) (s : StartSplit) (l : List ℕ) → ValidTranslator t → start_fits s (length l) ≡ true → AtLimit s.lane t → NoRepeat (key_of s) t
     → (start_split t s l).answer ≡ start.Chosen LimitReached
 unfolding start_split
-at-limit t s l v fits full none = rw fits (go (permitted t.count (key_of s) (take t.count t.buffers)) (permitted-says t.count (key_of s) t.count t.buffers))
+at_limit t s l v fits full none = rw fits (go (permitted t.count (key_of s) (take t.count t.buffers)) (permitted_says t.count (key_of s) t.count t.buffers))
   where
     go : (c : Choice) → PermittedSays t.count (key_of s) t.count t.buffers c → (start_by t s l c).answer ≡ start.Chosen LimitReached
-    go NoRoom r = absurd (may-store t s.lane r.may full)
+    go NoRoom r = absurd (may_store_lem t s.lane r.may full)
     go LimitReached r = refl
     go (Held n) r = absurd (true≢false (sym r.active ∙ none n.0 r.found.passes))
-    go (Reused n) r = absurd (may-store t s.lane r.may full)
-    go (Took n) r = absurd (may-store t s.lane r.may full)
+    go (Reused n) r = absurd (may_store_lem t s.lane r.may full)
+    go (Took n) r = absurd (may_store_lem t s.lane r.may full)
 
 repeated : (t : Translator) (s : StartSplit) (l : List ℕ) (n : BufferNumber) → ValidTranslator t → start_fits s (length l) ≡ true
     → holds (key_of s) (at t.buffers n.0).slot ≡ true → is_active (at t.buffers n.0).slot ≡ true → (start_split t s l).answer ≡ start.Chosen (Held n)
 unfolding start_split permitted
-repeated t s l n v fits has active = rw fits (go (may_store t.count (held_by s.lane (take t.count t.buffers))) (chosen (key_of s) (take t.count t.buffers)) (chosen-says (key_of s) t.count t.buffers))
+repeated t s l n v fits has active = rw fits (go (may_store t.count (held_by s.lane (take t.count t.buffers))) (chosen (key_of s) (take t.count t.buffers)) (chosen_says (key_of s) t.count t.buffers))
   where
     there : (i : ℕ) → holds (key_of s) (at t.buffers i).slot ≡ true → i ≡ n.0
     there i h = v.keys (key_of s) i n.0 h has
@@ -476,24 +476,24 @@ repeated t s l n v fits has active = rw fits (go (may_store t.count (held_by s.l
     go x (Reused m) r = absurd (true≢false (sym active ∙ (ap (λ (i : ℕ). is_active (at t.buffers i).slot) (sym (there m.0 r.found.passes)) ∙ r.active)))
     go x (Took m) r = absurd (missed (r.none n.0 used listed))
 
-pub lane-limit : LaneLimit
-lane-limit =
+pub lane_limit : LaneLimit
+lane_limit =
     record {
-      reached = λ t s l v e. subst (LimitAs t s) e (limit-as t s l v);
-      refused = at-limit;
+      reached = λ t s l v e. subst (LimitAs t s) e (limit_as t s l v);
+      refused = at_limit;
       repeated = repeated;
     }
 
 -- ---- ResetTT from a lane
 
-pub lane-reset : LaneReset
+pub lane_reset : LaneReset
 unfolding reset_lane
-lane-reset =
+lane_reset =
     record {
-      empties = λ t l i e. at-without-lane l t.buffers i ∙ ap (λ (x : Bool). cond x vacant (at t.buffers i)) e;
-      kept = λ t l i e. at-without-lane l t.buffers i ∙ ap (λ (x : Bool). cond x vacant (at t.buffers i)) e;
+      empties = λ t l i e. at-without_lane l t.buffers i ∙ ap (λ (x : Bool). cond x vacant (at t.buffers i)) e;
+      kept = λ t l i e. at-without_lane l t.buffers i ∙ ap (λ (x : Bool). cond x vacant (at t.buffers i)) e;
       abandoned = λ t l n r e. rw (r, e);
       runs_on = λ t l n r e. rw (r, e);
       idle = λ t l r. rw r;
-      stays-abandoned = λ t l r. rw r;
+      stays_abandoned = λ t l r. rw r;
     }

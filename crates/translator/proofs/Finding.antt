@@ -29,7 +29,7 @@ use Rattle.translator.specs.Order.{pass, sooner, earliest}
 use Rattle.translator.specs.Search.{later, find, choose_free, choose_held, chosen}
 use Rattle.translator.specs.Valid.{at_place}
 use Rattle.translator.specs.Limit.{held_by, may_store, limited, permitted, AtLimit}
-use Rattle.translator.proofs.At.{placed-pending, only-place}
+use Rattle.translator.proofs.At.{placed_pending, only-place}
 
 -- buffer i passes the test, and is one of the first m
 pub record Hit (f : Slot → Bool) (m : ℕ) (bs : List Buffer) (i : ℕ) : Type 0 where
@@ -46,11 +46,11 @@ abbrev pub FindSays : (Slot → Bool) → ℕ → List Buffer → Found → Type
 FindSays f m bs Nowhere = Miss f m bs
 FindSays f m bs (At n) = Hit f m bs n.0
 
-pub find-says : (f : Slot → Bool) (m : ℕ) (bs : List Buffer) → FindSays f m bs (find f (take m bs))
+pub find_says : (f : Slot → Bool) (m : ℕ) (bs : List Buffer) → FindSays f m bs (find f (take m bs))
 unfolding find
-find-says f zero bs = λ i h _. absurd (not-suc-le-zero h)
-find-says f (suc m) [] = λ i _ h. absurd (not-suc-le-zero h)
-find-says f (suc m) (b ∷ bs) = go (f b.slot) refl (find f (take m bs)) (find-says f m bs)
+find_says f zero bs = λ i h _. absurd (not-suc-le-zero h)
+find_says f (suc m) [] = λ i _ h. absurd (not-suc-le-zero h)
+find_says f (suc m) (b ∷ bs) = go (f b.slot) refl (find f (take m bs)) (find_says f m bs)
   where
     go : (t : Bool) → f b.slot ≡ t → (r : Found) → FindSays f m bs r → FindSays f (suc m) (b ∷ bs) (cond t (At (record { 0 = 0 })) (later r))
     go true e r s = record { small = suc-le-suc zero-le; inside = suc-le-suc zero-le; passes = e }
@@ -78,21 +78,21 @@ ChosenSays k m bs (Held n) = Holder k m bs n.0 true
 ChosenSays k m bs (Reused n) = Holder k m bs n.0 false
 ChosenSays k m bs (Took n) = Unheld k m bs (At n)
 
-pub chosen-says : (k : Key) (m : ℕ) (bs : List Buffer) → ChosenSays k m bs (chosen k (take m bs))
+pub chosen_says : (k : Key) (m : ℕ) (bs : List Buffer) → ChosenSays k m bs (chosen k (take m bs))
 unfolding chosen
-chosen-says k m bs = go (find (holds k) (take m bs)) (find-says (holds k) m bs)
+chosen_says k m bs = go (find (holds k) (take m bs)) (find_says (holds k) m bs)
   where
-    held-case : (n : BufferNumber) → Hit (holds k) m bs n.0 → (a : Bool) → is_active (at bs n.0).slot ≡ a → ChosenSays k m bs (cond a (Held n) (Reused n))
-    held-case n r true e = record { found = r; active = e }
-    held-case n r false e = record { found = r; active = e }
+    held_case : (n : BufferNumber) → Hit (holds k) m bs n.0 → (a : Bool) → is_active (at bs n.0).slot ≡ a → ChosenSays k m bs (cond a (Held n) (Reused n))
+    held_case n r true e = record { found = r; active = e }
+    held_case n r false e = record { found = r; active = e }
 
-    free-case : Miss (holds k) m bs → (f : Found) → FindSays is_free m bs f → ChosenSays k m bs (choose_free f)
-    free-case u Nowhere r = record { none = u; free = r }
-    free-case u (At n) r = record { none = u; free = r }
+    free_case : Miss (holds k) m bs → (f : Found) → FindSays is_free m bs f → ChosenSays k m bs (choose_free f)
+    free_case u Nowhere r = record { none = u; free = r }
+    free_case u (At n) r = record { none = u; free = r }
 
     go : (f : Found) → FindSays (holds k) m bs f → ChosenSays k m bs (choose_held (take m bs) f)
-    go Nowhere u = free-case u (find is_free (take m bs)) (find-says is_free m bs)
-    go (At n) r = held-case n r (is_active (at (take m bs) n.0).slot) (ap (λ (b : Buffer). is_active b.slot) (sym (get_or-take m bs n.0 vacant r.small)))
+    go Nowhere u = free_case u (find is_free (take m bs)) (find_says is_free m bs)
+    go (At n) r = held_case n r (is_active (at (take m bs) n.0).slot) (ap (λ (b : Buffer). is_active b.slot) (sym (get_or-take m bs n.0 vacant r.small)))
 
 -- ---- a search finds the lowest
 
@@ -100,11 +100,11 @@ abbrev pub LowestSays : (Slot → Bool) → List Buffer → Found → Type 0
 LowestSays f bs Nowhere = Unit {0}
 LowestSays f bs (At n) = (i : ℕ) → i < n.0 → f (at bs i).slot ≡ false
 
-pub find-lowest : (f : Slot → Bool) (m : ℕ) (bs : List Buffer) → LowestSays f bs (find f (take m bs))
+pub find_lowest : (f : Slot → Bool) (m : ℕ) (bs : List Buffer) → LowestSays f bs (find f (take m bs))
 unfolding find
-find-lowest f zero bs = tt
-find-lowest f (suc m) [] = tt
-find-lowest f (suc m) (b ∷ bs) = go (f b.slot) refl (find f (take m bs)) (find-lowest f m bs)
+find_lowest f zero bs = tt
+find_lowest f (suc m) [] = tt
+find_lowest f (suc m) (b ∷ bs) = go (f b.slot) refl (find f (take m bs)) (find_lowest f m bs)
   where
     go : (t : Bool) → f b.slot ≡ t → (r : Found) → LowestSays f bs r → LowestSays f (b ∷ bs) (cond t (At (record { 0 = 0 })) (later r))
     go true e r s = λ i l. absurd (not-suc-le-zero l)
@@ -117,13 +117,13 @@ find-lowest f (suc m) (b ∷ bs) = go (f b.slot) refl (find f (take m bs)) (find
 
 -- ---- the limit
 
-pub may-store : (t : Translator) (z : Lane) → may_store t.count (held_by z (take t.count t.buffers)) ≡ true → ¬ (AtLimit z t)
-may-store t z e full =
+pub may_store_lem : (t : Translator) (z : Lane) → may_store t.count (held_by z (take t.count t.buffers)) ≡ true → ¬ (AtLimit z t)
+may_store_lem t z e full =
     let below : held_by z (take t.count t.buffers) + 1 < t.count = ltb-true (held_by z (take t.count t.buffers) + 1) t.count e in
     absurd (omega (arith, full, below))
 
-pub may-not-store : (t : Translator) (z : Lane) → may_store t.count (held_by z (take t.count t.buffers)) ≡ false → AtLimit z t
-may-not-store t z e = ltb-false (held_by z (take t.count t.buffers) + 1) t.count e
+pub may_not_store : (t : Translator) (z : Lane) → may_store t.count (held_by z (take t.count t.buffers)) ≡ false → AtLimit z t
+may_not_store t z e = ltb-false (held_by z (take t.count t.buffers) + 1) t.count e
 
 abbrev pub is_held : Choice → Bool
 is_held NoRoom = false
@@ -151,9 +151,9 @@ PermittedSays b k m bs (Held n) = ChosenSays k m bs (Held n)
 PermittedSays b k m bs (Reused n) = Stores b k m bs (Reused n)
 PermittedSays b k m bs (Took n) = Stores b k m bs (Took n)
 
-pub permitted-says : (b : ℕ) (k : Key) (m : ℕ) (bs : List Buffer) → PermittedSays b k m bs (permitted b k (take m bs))
+pub permitted_says : (b : ℕ) (k : Key) (m : ℕ) (bs : List Buffer) → PermittedSays b k m bs (permitted b k (take m bs))
 unfolding permitted
-permitted-says b k m bs = go (may_store b (held_by k.lane (take m bs))) refl (chosen k (take m bs)) (chosen-says k m bs)
+permitted_says b k m bs = go (may_store b (held_by k.lane (take m bs))) refl (chosen k (take m bs)) (chosen_says k m bs)
   where
     go : (x : Bool) → may_store b (held_by k.lane (take m bs)) ≡ x → (c : Choice) → ChosenSays k m bs c → PermittedSays b k m bs (limited x c)
     go true e NoRoom r = record { may = e; says = r }
@@ -197,7 +197,7 @@ module _ (bs : List Buffer) (i : ℕ) where
       record { small = omega (arith, s.small); placed = s.placed; least = λ j q h e. go j q h e (ℕ_discrete j i) }
     where
       go : (j q : ℕ) → j < suc i → at_place q (at bs j).slot ≡ true → Dec (j ≡ i) → p ≤ q
-      go j q h e (yes x) = absurd (true≢false (sym (placed-pending q (at bs i).slot (ap (λ (y : ℕ). at_place q (at bs y).slot) (sym x) ∙ e)) ∙ np))
+      go j q h e (yes x) = absurd (true≢false (sym (placed_pending q (at bs i).slot (ap (λ (y : ℕ). at_place q (at bs y).slot) (sym x) ∙ e)) ∙ np))
       go j q h e (no nx) = s.least j q (omega (arith, h, nx)) e
 
   -- the least so far, and one more at the place p
@@ -220,7 +220,7 @@ module _ (bs : List Buffer) (i : ℕ) where
       record {
         small = omega arith;
         placed = here;
-        least = least_more p p here (omega arith) (λ j q h e. absurd (true≢false (sym (placed-pending q (at bs j).slot e) ∙ says j h)));
+        least = least_more p p here (omega arith) (λ j q h e. absurd (true≢false (sym (placed_pending q (at bs j).slot e) ∙ says j h)));
       }
   onward (Pending s p) at-s (Stored n q) says = go (ltb p q) refl
     where
@@ -239,18 +239,18 @@ module _ (bs : List Buffer) (i : ℕ) where
           record { small = omega (arith, says.small); placed = says.placed; least = least_more p q here (ltb-false p q t) says.least }
 
 -- the pass from number i on, over what is left
-over-rest : (bs cs : List Buffer) (i : ℕ) (e : Earliest) → drop i bs ≡ cs → i + length cs ≡ length bs → EarliestSays bs i e
+over_rest : (bs cs : List Buffer) (i : ℕ) (e : Earliest) → drop i bs ≡ cs → i + length cs ≡ length bs → EarliestSays bs i e
     → EarliestSays bs (length bs) (pass sooner i e cs)
 unfolding pass
-over-rest bs [] i e d l says = let n : i ≡ length bs = omega (arith, l) in subst (λ (m : ℕ). EarliestSays bs m e) n says
-over-rest bs (c ∷ cs) i e d l says =
+over_rest bs [] i e d l says = let n : i ≡ length bs = omega (arith, l) in subst (λ (m : ℕ). EarliestSays bs m e) n says
+over_rest bs (c ∷ cs) i e d l says =
     let z : i + 0 ≡ i = omega arith in
     let here : at bs i ≡ c = ap (at bs) (sym z) ∙ (sym (get_or-drop i bs 0 vacant) ∙ ap (λ (x : List Buffer). at x 0) d) in
     let one : i + 1 ≡ suc i = omega arith in
     let rest : drop (suc i) bs ≡ cs = ap (λ (n : ℕ). drop n bs) (sym one) ∙ (sym (drop-drop 1 i bs) ∙ ap (drop 1) d) in
-    over-rest bs cs (suc i) (sooner e c.slot (record { 0 = i })) rest (omega (arith, l))
+    over_rest bs cs (suc i) (sooner e c.slot (record { 0 = i })) rest (omega (arith, l))
     (onward bs i c.slot (ap (λ (b : Buffer). b.slot) here) e says)
 
-pub earliest-says : (bs : List Buffer) → EarliestSays bs (length bs) (earliest bs)
+pub earliest_says : (bs : List Buffer) → EarliestSays bs (length bs) (earliest bs)
 unfolding earliest
-earliest-says bs = over-rest bs bs 0 NonePending refl (omega arith) (λ j h. absurd (not-suc-le-zero h))
+earliest_says bs = over_rest bs bs 0 NonePending refl (omega arith) (λ j h. absurd (not-suc-le-zero h))

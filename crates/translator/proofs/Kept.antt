@@ -23,7 +23,7 @@ use Rattle.buffer.specs.Key.{key_of, same_lane}
 use Rattle.buffer.specs.Lengths.{numbers_fit, start_length, start_fits, result_length, suits}
 use Rattle.buffer.specs.Buffer.{vacant, is_pending, is_active, is_free, holds, in_lane, active_in}
 use Rattle.buffer.specs.Valid.{slot_fits, Whole}
-use Rattle.buffer.proofs.Keys.{same_true, lane-true}
+use Rattle.buffer.proofs.Keys.{same_true, lane_true}
 use Rattle.translator.specs.declared.LowSide.{LowSide}
 use Rattle.translator.specs.declared.LowSide.TheVariants.{Idle, Running, Abandoned}
 use Rattle.translator.specs.declared.Translator.{Translator}
@@ -47,35 +47,35 @@ use Rattle.translator.specs.Launch.{launched, launch_at, launch_by, launch}
 use Rattle.translator.specs.Deliver.{undelivered, delivered, deliver_by, deliver}
 use Rattle.translator.specs.Clear.{low_without, clear_at, clear_buffer}
 use Rattle.translator.specs.ResetLane.{without_lane, low_without_lane, reset_lane}
-use Rattle.translator.proofs.At.{inside, at_other, at-cases, apart-set, at-ranked, length-ranked, holds-reranked, pending-reranked, active-in-reranked, at-without-lane}
-use Rattle.translator.proofs.Tallies.{tally-set, no_more, tally-map, tally-map-le, tally-take}
-use Rattle.translator.proofs.Finding.{Miss, FindSays, find-says, ChosenSays, is_held, PermittedSays, permitted-says}
+use Rattle.translator.proofs.At.{inside, at_other, at_cases, apart_set, at-ranked, length-ranked, holds-reranked, pending_reranked, active_in_reranked, at-without_lane}
+use Rattle.translator.proofs.Tallies.{tally_set, no_more, tally_map, tally_map_le, tally_take}
+use Rattle.translator.proofs.Finding.{Miss, FindSays, find_says, ChosenSays, is_held, PermittedSays, permitted_says}
 use Rattle.translator.proofs.Ranks.{rank_below, ranked-place, same_rank}
 
 -- ---- lengths
 
-start-short : (p : Pid) (n : ℕ) → start_length p n ≡ true → n ≤ 64
-start-short pid.Out n e = leb-true n 64 e
-start-short pid.In n e = omega (arith, eqb-true n 0 e)
-start-short pid.Setup n e = omega (arith, eqb-true n 8 e)
+start_short : (p : Pid) (n : ℕ) → start_length p n ≡ true → n ≤ 64
+start_short pid.Out n e = leb-true n 64 e
+start_short pid.In n e = omega (arith, eqb-true n 0 e)
+start_short pid.Setup n e = omega (arith, eqb-true n 8 e)
 
-pub start-le : (s : StartSplit) (n : ℕ) → start_fits s n ≡ true → n ≤ 64
+pub start_le : (s : StartSplit) (n : ℕ) → start_fits s n ≡ true → n ≤ 64
 unfolding start_fits
-start-le s n e = start-short s.pid n ((and-eq-true_iff (numbers_fit s) (start_length s.pid n)).0 e).1
+start_le s n e = start_short s.pid n ((and-eq-true_iff (numbers_fit s) (start_length s.pid n)).0 e).1
 
 pub numbers_of : (s : StartSplit) (n : ℕ) → start_fits s n ≡ true → numbers_fit s ≡ true
 unfolding start_fits
 numbers_of s n e = ((and-eq-true_iff (numbers_fit s) (start_length s.pid n)).0 e).0
 
-pub result-le : (r : DeviceResult) (n : ℕ) → result_length r n ≡ true → n ≤ 64
+pub result_le : (r : DeviceResult) (n : ℕ) → result_length r n ≡ true → n ≤ 64
 unfolding result_length
-result-le r n e = leb-true n 64 ((and-eq-true_iff _ _).0 e).0
+result_le r n e = leb-true n 64 ((and-eq-true_iff _ _).0 e).0
 
-pub slot-le : (s : Slot) (n : ℕ) → slot_fits s n ≡ true → n ≤ 64
-slot-le Empty n e = omega (arith, eqb-true n 0 e)
-slot-le (Pending s p) n e = start-le s n e
-slot-le (Ready s r) n e = result-le r n ((and-eq-true_iff (numbers_fit s) (result_length r n)).0 e).1
-slot-le (Old s r) n e = result-le r n ((and-eq-true_iff (numbers_fit s) (result_length r n)).0 e).1
+pub slot_le : (s : Slot) (n : ℕ) → slot_fits s n ≡ true → n ≤ 64
+slot_le Empty n e = omega (arith, eqb-true n 0 e)
+slot_le (Pending s p) n e = start_le s n e
+slot_le (Ready s r) n e = result_le r n ((and-eq-true_iff (numbers_fit s) (result_length r n)).0 e).1
+slot_le (Old s r) n e = result_le r n ((and-eq-true_iff (numbers_fit s) (result_length r n)).0 e).1
 
 -- ---- the empty translator
 
@@ -83,73 +83,73 @@ vacant-whole : Whole vacant
 unfolding padded
 vacant-whole = record { fits = refl; zeros = refl }
 
-at-empty : (i : ℕ) → at (replicate 4 vacant) i ≡ vacant
-at-empty zero = refl
-at-empty (suc zero) = refl
-at-empty (suc (suc zero)) = refl
-at-empty (suc (suc (suc zero))) = refl
-at-empty (suc (suc (suc (suc i)))) = refl
+at_empty : (i : ℕ) → at (replicate 4 vacant) i ≡ vacant
+at_empty zero = refl
+at_empty (suc zero) = refl
+at_empty (suc (suc zero)) = refl
+at_empty (suc (suc (suc zero))) = refl
+at_empty (suc (suc (suc (suc i)))) = refl
 
-none-held : (l : Lane) → held_by l (replicate 4 vacant) ≡ 0
+none_held : (l : Lane) → held_by l (replicate 4 vacant) ≡ 0
 unfolding tally
-none-held l = refl
+none_held l = refl
 
-pub new-valid : (n : ℕ) → 2 ≤ n → n ≤ 4 → ValidTranslator (new_translator n)
-new-valid n l m =
+pub new_valid : (n : ℕ) → 2 ≤ n → n ≤ 4 → ValidTranslator (new_translator n)
+new_valid n l m =
     record {
       least = l;
       most = m;
       four = refl;
-      spare = λ i _. at-empty i;
-      whole = λ i. subst Whole (sym (at-empty i)) vacant-whole;
-      keys = λ k i j e. absurd (false≢true (ap (λ (b : Buffer). holds k b.slot) (sym (at-empty i)) ∙ e));
-      places = λ p i j e. absurd (false≢true (ap (λ (b : Buffer). at_place p b.slot) (sym (at-empty i)) ∙ e));
-      lanes = λ z. omega (arith, none-held z, l);
+      spare = λ i _. at_empty i;
+      whole = λ i. subst Whole (sym (at_empty i)) vacant-whole;
+      keys = λ k i j e. absurd (false≢true (ap (λ (b : Buffer). holds k b.slot) (sym (at_empty i)) ∙ e));
+      places = λ p i j e. absurd (false≢true (ap (λ (b : Buffer). at_place p b.slot) (sym (at_empty i)) ∙ e));
+      lanes = λ z. omega (arith, none_held z, l);
       running = tt;
     }
 
 -- ---- one buffer changed
 
-waits-else : (bs : List Buffer) (i : ℕ) (b : Buffer) → i < length bs → (j : ℕ) → ¬ (j ≡ i) → is_pending (at bs j).slot ≡ true → is_pending (at (set bs i b) j).slot ≡ true
-waits-else bs i b here j ne w = subst (λ (x : Buffer). is_pending x.slot ≡ true) (sym (at_other bs i b here j ne)) w
+waits_else : (bs : List Buffer) (i : ℕ) (b : Buffer) → i < length bs → (j : ℕ) → ¬ (j ≡ i) → is_pending (at bs j).slot ≡ true → is_pending (at (set bs i b) j).slot ≡ true
+waits_else bs i b here j ne w = subst (λ (x : Buffer). is_pending x.slot ≡ true) (sym (at_other bs i b here j ne)) w
 
 -- where the buffer was not pending, the low side is as it was
-runs-else : (bs : List Buffer) (i : ℕ) (b : Buffer) → i < length bs → is_pending (at bs i).slot ≡ false → (l : LowSide) → RunsPending bs l → RunsPending (set bs i b) l
-runs-else bs i b here np Idle w = tt
-runs-else bs i b here np (Running n) w =
-    waits-else bs i b here n.0 (λ q. true≢false (sym w ∙ ap (λ (x : ℕ). is_pending (at bs x).slot) q ∙ np)) w
-runs-else bs i b here np Abandoned w = tt
+runs_else : (bs : List Buffer) (i : ℕ) (b : Buffer) → i < length bs → is_pending (at bs i).slot ≡ false → (l : LowSide) → RunsPending bs l → RunsPending (set bs i b) l
+runs_else bs i b here np Idle w = tt
+runs_else bs i b here np (Running n) w =
+    waits_else bs i b here n.0 (λ q. true≢false (sym w ∙ ap (λ (x : ℕ). is_pending (at bs x).slot) q ∙ np)) w
+runs_else bs i b here np Abandoned w = tt
 
 module _ (t : Translator) (v : ValidTranslator t) where
   -- buffer i in use is b now, under no other buffer's key and at no other's place
-  pub valid-set : (i : ℕ) (b : Buffer) (l : LowSide) → i < t.count → Whole b
+  pub valid_set : (i : ℕ) (b : Buffer) (l : LowSide) → i < t.count → Whole b
       → ((k : Key) → holds k b.slot ≡ true → (j : ℕ) → holds k (at t.buffers j).slot ≡ true → j ≡ i)
       → ((p : ℕ) → at_place p b.slot ≡ true → (j : ℕ) → at_place p (at t.buffers j).slot ≡ true → j ≡ i)
       → ((z : Lane) → held_by z (set t.buffers i b) < t.count)
       → RunsPending (set t.buffers i b) l → ValidTranslator (record { buffers = set t.buffers i b; count = t.count; low = l })
-  valid-set i b l used w key place few runs =
+  valid_set i b l used w key place few runs =
       let here : i < length t.buffers = omega (arith, used, v.most, v.four) in
       record {
         least = v.least;
         most = v.most;
         four = length-set t.buffers i b ∙ v.four;
         spare = λ j h. at_other t.buffers i b here j (λ q. omega (arith, used, h, q)) ∙ v.spare j h;
-        whole = λ j. at-cases t.buffers i b here Whole j (λ _. w) (λ _. v.whole j);
-        keys = λ k. apart-set t.buffers i b here (holds k) (v.keys k) (key k);
-        places = λ p. apart-set t.buffers i b here (at_place p) (v.places p) (place p);
+        whole = λ j. at_cases t.buffers i b here Whole j (λ _. w) (λ _. v.whole j);
+        keys = λ k. apart_set t.buffers i b here (holds k) (v.keys k) (key k);
+        places = λ p. apart_set t.buffers i b here (at_place p) (v.places p) (place p);
         lanes = few;
         running = runs;
       }
 
   -- a lane holds no more than before
-  pub few-set : (i : ℕ) (b : Buffer) → i < t.count → ((z : Lane) → active_in z b.slot ≡ true → active_in z (at t.buffers i).slot ≡ true)
+  pub few_set : (i : ℕ) (b : Buffer) → i < t.count → ((z : Lane) → active_in z b.slot ≡ true → active_in z (at t.buffers i).slot ≡ true)
       → (z : Lane) → held_by z (set t.buffers i b) < t.count
-  few-set i b used w z =
+  few_set i b used w z =
       let here : i < length t.buffers = omega (arith, used, v.most, v.four) in
       omega (arith, no_more (active_in z) t.buffers i b here (w z), v.lanes z)
 
-  pub with-low : (l : LowSide) → RunsPending t.buffers l → ValidTranslator (record { buffers = t.buffers; count = t.count; low = l })
-  with-low l runs =
+  pub with_low_lem : (l : LowSide) → RunsPending t.buffers l → ValidTranslator (record { buffers = t.buffers; count = t.count; low = l })
+  with_low_lem l runs =
       record {
         least = v.least;
         most = v.most;
@@ -173,11 +173,11 @@ module _ (t : Translator) (v : ValidTranslator t) where
 -- ---- start-split
 
 -- a place is not looked at
-pub fits-reranked : (bs : List Buffer) (s : Slot) (n : ℕ) → slot_fits (reranked bs s) n ≡ slot_fits s n
-fits-reranked bs Empty n = refl
-fits-reranked bs (Pending s p) n = refl
-fits-reranked bs (Ready s r) n = refl
-fits-reranked bs (Old s r) n = refl
+pub fits_reranked : (bs : List Buffer) (s : Slot) (n : ℕ) → slot_fits (reranked bs s) n ≡ slot_fits s n
+fits_reranked bs Empty n = refl
+fits_reranked bs (Pending s p) n = refl
+fits_reranked bs (Ready s r) n = refl
+fits_reranked bs (Old s r) n = refl
 
 not_free : (s : Slot) → is_free s ≡ true → is_pending s ≡ false
 not_free Empty e = refl
@@ -186,25 +186,25 @@ not_free (Ready s r) e = refl
 not_free (Old s r) e = refl
 
 module _ (t : Translator) (v : ValidTranslator t) where
-  ranked-held : (z : Lane) → held_by z (ranked t.buffers) ≡ held_by z t.buffers
+  ranked_held : (z : Lane) → held_by z (ranked t.buffers) ≡ held_by z t.buffers
   unfolding ranked
-  ranked-held z = tally-map (active_in z) (ranked_in t.buffers) (λ b. active-in-reranked t.buffers z b.slot) t.buffers
+  ranked_held z = tally_map (active_in z) (ranked_in t.buffers) (λ b. active_in_reranked t.buffers z b.slot) t.buffers
 
-  ranked-valid : ValidTranslator (record { buffers = ranked t.buffers; count = t.count; low = t.low })
-  ranked-valid =
+  ranked_valid : ValidTranslator (record { buffers = ranked t.buffers; count = t.count; low = t.low })
+  ranked_valid =
       record {
         least = v.least;
         most = v.most;
         four = length-ranked bs ∙ v.four;
         spare = λ i h. at-ranked bs i ∙ ap (ranked_in bs) (v.spare i h);
-        whole = λ i. subst Whole (sym (at-ranked bs i)) (record { fits = fits-reranked bs (at bs i).slot _ ∙ (v.whole i).fits; zeros = (v.whole i).zeros });
+        whole = λ i. subst Whole (sym (at-ranked bs i)) (record { fits = fits_reranked bs (at bs i).slot _ ∙ (v.whole i).fits; zeros = (v.whole i).zeros });
         keys = λ k i j e f. v.keys k i j (held i k e) (held j k f);
         places = λ p i j e f.
             let x = ranked-place bs i p e in
             let y = ranked-place bs j p f in
             let q : x.0 ≡ y.0 = same_rank bs i j x.0 y.0 x.1 y.1 (x.2 ∙ sym y.2) in
             v.places y.0 i j (ap (λ (n : ℕ). at_place n (at bs i).slot) (sym q) ∙ x.1) y.1;
-        lanes = λ z. subst (λ (n : ℕ). n < t.count) (sym (ranked-held z)) (v.lanes z);
+        lanes = λ z. subst (λ (n : ℕ). n < t.count) (sym (ranked_held z)) (v.lanes z);
         running = low t.low v.running;
       }
     where
@@ -216,12 +216,12 @@ module _ (t : Translator) (v : ValidTranslator t) where
 
       low : (l : LowSide) → RunsPending t.buffers l → RunsPending (ranked t.buffers) l
       low Idle w = tt
-      low (Running n) w = ap (λ (b : Buffer). is_pending b.slot) (at-ranked t.buffers n.0) ∙ pending-reranked t.buffers (at t.buffers n.0).slot ∙ w
+      low (Running n) w = ap (λ (b : Buffer). is_pending b.slot) (at-ranked t.buffers n.0) ∙ pending_reranked t.buffers (at t.buffers n.0).slot ∙ w
       low Abandoned w = tt
 
   -- the buffers that are not in use count for no lane
   pub all_held : (z : Lane) → held_by z (take t.count t.buffers) ≡ held_by z t.buffers
-  all_held z = tally-take (active_in z) refl t.count t.buffers v.spare
+  all_held z = tally_take (active_in z) refl t.count t.buffers v.spare
 
   held_below : (z : Lane) → may_store t.count (held_by z (take t.count t.buffers)) ≡ true → held_by z t.buffers + 1 < t.count
   held_below z e = omega (arith, ltb-true (held_by z (take t.count t.buffers) + 1) t.count e, all_held z)
@@ -230,20 +230,20 @@ module _ (t : Translator) (v : ValidTranslator t) where
   missed k m i e = true≢false (sym e ∙ m i (in_use t v (holds k) refl i e) (inside (holds k) refl t.buffers i e))
 
   -- no repeat, where the search found the key in no buffer or in an old one
-  pub no-repeat : (k : Key) (c : Choice) → ChosenSays k t.count t.buffers c → is_held c ≡ false → NoRepeat k t
-  no-repeat k NoRoom r u i e = absurd (missed k r.none i e)
-  no-repeat k LimitReached r u i e = absurd r
-  no-repeat k (Held n) r u i e = absurd (true≢false u)
-  no-repeat k (Reused n) r u i e = ap (λ (j : ℕ). is_active (at t.buffers j).slot) (v.keys k i n.0 e r.found.passes) ∙ r.active
-  no-repeat k (Took n) r u i e = absurd (missed k r.none i e)
+  pub no_repeat : (k : Key) (c : Choice) → ChosenSays k t.count t.buffers c → is_held c ≡ false → NoRepeat k t
+  no_repeat k NoRoom r u i e = absurd (missed k r.none i e)
+  no_repeat k LimitReached r u i e = absurd r
+  no_repeat k (Held n) r u i e = absurd (true≢false u)
+  no_repeat k (Reused n) r u i e = ap (λ (j : ℕ). is_active (at t.buffers j).slot) (v.keys k i n.0 e r.found.passes) ∙ r.active
+  no_repeat k (Took n) r u i e = absurd (missed k r.none i e)
 
-  store-valid : (n : BufferNumber) (s : StartSplit) (l : List ℕ) → start_fits s (length l) ≡ true → n.0 < t.count → is_free (at t.buffers n.0).slot ≡ true
+  store_valid : (n : BufferNumber) (s : StartSplit) (l : List ℕ) → start_fits s (length l) ≡ true → n.0 < t.count → is_free (at t.buffers n.0).slot ≡ true
       → ((j : ℕ) → holds (key_of s) (at t.buffers j).slot ≡ true → j ≡ n.0) → may_store t.count (held_by s.lane (take t.count t.buffers)) ≡ true
       → ValidTranslator (stored t n s l)
   unfolding stored
-  store-valid n s l fits used free only may =
-      valid-set (record { buffers = ranked bs; count = t.count; low = t.low }) ranked-valid n.0 b t.low used
-      (record { fits = ap (start_fits s) (len_of l (start-le s (length l) fits)) ∙ fits; zeros = zeros_of l })
+  store_valid n s l fits used free only may =
+      valid_set (record { buffers = ranked bs; count = t.count; low = t.low }) ranked_valid n.0 b t.low used
+      (record { fits = ap (start_fits s) (len_of l (start_le s (length l) fits)) ∙ fits; zeros = zeros_of l })
       (λ k e j h. only j (ap (λ (x : Key). holds x (at bs j).slot) (same_true (key_of s) k e) ∙ (sym (holds-reranked bs k (at bs j).slot) ∙ ap (λ (x : Buffer). holds k x.slot) (sym (at-ranked bs j)) ∙ h)))
       (λ p e j h.
       let x = ranked-place bs j p h in
@@ -251,9 +251,9 @@ module _ (t : Translator) (v : ValidTranslator t) where
       let w : waiting bs ≡ p = eqb-true (waiting bs) p e in
       absurd (omega (arith, below, w, x.2)))
       few
-      (runs-else (ranked bs) n.0 b here
-      (ap (λ (x : Buffer). is_pending x.slot) (at-ranked bs n.0) ∙ pending-reranked bs (at bs n.0).slot ∙ not_free (at bs n.0).slot free)
-      t.low ranked-valid.running)
+      (runs_else (ranked bs) n.0 b here
+      (ap (λ (x : Buffer). is_pending x.slot) (at-ranked bs n.0) ∙ pending_reranked bs (at bs n.0).slot ∙ not_free (at bs n.0).slot free)
+      t.low ranked_valid.running)
     where
       bs : List Buffer
       bs = t.buffers
@@ -271,42 +271,42 @@ module _ (t : Translator) (v : ValidTranslator t) where
       few : (z : Lane) → held_by z (set (ranked t.buffers) n.0 b) < t.count
       few z = go (same_lane s.lane z) refl
         where
-          now-held : held_by z (set (ranked t.buffers) n.0 b) + bit (active_in z (at (ranked t.buffers) n.0).slot) ≡ held_by z (ranked t.buffers) + bit (same_lane s.lane z)
-          now-held = tally-set (active_in z) (ranked t.buffers) n.0 b here
+          now_held : held_by z (set (ranked t.buffers) n.0 b) + bit (active_in z (at (ranked t.buffers) n.0).slot) ≡ held_by z (ranked t.buffers) + bit (same_lane s.lane z)
+          now_held = tally_set (active_in z) (ranked t.buffers) n.0 b here
 
           go : (x : Bool) → same_lane s.lane z ≡ x → held_by z (set (ranked t.buffers) n.0 b) < t.count
           go true e =
               let one : bit (same_lane s.lane z) ≡ 1 = ap bit e in
-              let mine : held_by z t.buffers + 1 < t.count = subst (λ (y : Lane). held_by y t.buffers + 1 < t.count) (lane-true s.lane z e) below in
-              omega (arith, now-held, one, ranked-held z, mine)
+              let mine : held_by z t.buffers + 1 < t.count = subst (λ (y : Lane). held_by y t.buffers + 1 < t.count) (lane_true s.lane z e) below in
+              omega (arith, now_held, one, ranked_held z, mine)
           go false e =
               let none : bit (same_lane s.lane z) ≡ 0 = ap bit e in
-              omega (arith, now-held, none, ranked-held z, v.lanes z)
+              omega (arith, now_held, none, ranked_held z, v.lanes z)
 
-  active-free : (s : Slot) → is_active s ≡ false → is_free s ≡ true
-  active-free Empty e = refl
-  active-free (Pending s p) e = sym e
-  active-free (Ready s r) e = sym e
-  active-free (Old s r) e = refl
+  active_free : (s : Slot) → is_active s ≡ false → is_free s ≡ true
+  active_free Empty e = refl
+  active_free (Pending s p) e = sym e
+  active_free (Ready s r) e = sym e
+  active_free (Old s r) e = refl
 
-  start-by : (s : StartSplit) (l : List ℕ) → start_fits s (length l) ≡ true → (c : Choice) → PermittedSays t.count (key_of s) t.count t.buffers c → ValidTranslator (start_by t s l c).next
-  start-by s l f NoRoom r = v
-  start-by s l f LimitReached r = v
-  start-by s l f (Held n) r = v
-  start-by s l f (Reused n) r =
-      store-valid n s l f r.says.found.small (active-free (at t.buffers n.0).slot r.says.active) (λ j h. v.keys (key_of s) j n.0 h r.says.found.passes) r.may
-  start-by s l f (Took n) r =
-      store-valid n s l f r.says.free.small r.says.free.passes
+  start_by_lem : (s : StartSplit) (l : List ℕ) → start_fits s (length l) ≡ true → (c : Choice) → PermittedSays t.count (key_of s) t.count t.buffers c → ValidTranslator (start_by t s l c).next
+  start_by_lem s l f NoRoom r = v
+  start_by_lem s l f LimitReached r = v
+  start_by_lem s l f (Held n) r = v
+  start_by_lem s l f (Reused n) r =
+      store_valid n s l f r.says.found.small (active_free (at t.buffers n.0).slot r.says.active) (λ j h. v.keys (key_of s) j n.0 h r.says.found.passes) r.may
+  start_by_lem s l f (Took n) r =
+      store_valid n s l f r.says.free.small r.says.free.passes
       (λ j h. absurd (true≢false (sym h ∙ r.says.none j (in_use t v (holds (key_of s)) refl j h) (inside (holds (key_of s)) refl t.buffers j h))))
       r.may
 
-  pub start-valid : (s : StartSplit) (l : List ℕ) → ValidTranslator (start_split t s l).next
+  pub start_valid : (s : StartSplit) (l : List ℕ) → ValidTranslator (start_split t s l).next
   unfolding start_split
-  start-valid s l = go (start_fits s (length l)) refl
+  start_valid s l = go (start_fits s (length l)) refl
     where
       go : (x : Bool) → start_fits s (length l) ≡ x
           → ValidTranslator (cond x (start_by t s l (permitted t.count (key_of s) (take t.count t.buffers))) (record { next = t; answer = Outside })).next
-      go true e = start-by s l e (permitted t.count (key_of s) (take t.count t.buffers)) (permitted-says t.count (key_of s) t.count t.buffers)
+      go true e = start_by_lem s l e (permitted t.count (key_of s) (take t.count t.buffers)) (permitted_says t.count (key_of s) t.count t.buffers)
       go false e = v
 
   -- ---- the other calls
@@ -317,15 +317,15 @@ module _ (t : Translator) (v : ValidTranslator t) where
       → RunsPending (set t.buffers n.0 b) l
       → ValidTranslator (record { buffers = set t.buffers n.0 b; count = t.count; low = l })
   goes_on n b l used w same idle counted runs =
-      valid-set t v n.0 b l used w (λ k e j h. v.keys k j n.0 h (sym (same k) ∙ e)) (λ p e. absurd (true≢false (sym e ∙ idle p)))
-      (few-set t v n.0 b used counted) runs
+      valid_set t v n.0 b l used w (λ k e j h. v.keys k j n.0 h (sym (same k) ∙ e)) (λ p e. absurd (true≢false (sym e ∙ idle p)))
+      (few_set t v n.0 b used counted) runs
 
   here_in : (n : ℕ) → n < t.count → n < length t.buffers
   here_in n used = omega (arith, used, v.most, v.four)
 
-  complete-at : (k : Key) (f : Found) → FindSays (holds k) t.count t.buffers f → ValidTranslator (complete_at t f).next
-  complete-at k Nowhere r = v
-  complete-at k (At n) r = go (at t.buffers n.0).slot refl
+  complete_at_lem : (k : Key) (f : Found) → FindSays (holds k) t.count t.buffers f → ValidTranslator (complete_at t f).next
+  complete_at_lem k Nowhere r = v
+  complete_at_lem k (At n) r = go (at t.buffers n.0).slot refl
     where
       go : (s : Slot) → (at t.buffers n.0).slot ≡ s → ValidTranslator (completed t n (at t.buffers n.0).payload s).next
       go Empty e = v
@@ -334,38 +334,38 @@ module _ (t : Translator) (v : ValidTranslator t) where
           goes_on n (record { slot = Old s x; payload = (at t.buffers n.0).payload }) t.low r.small
           (record { fits = ap (λ (y : Slot). slot_fits y (at t.buffers n.0).payload.len) (sym e) ∙ (v.whole n.0).fits; zeros = (v.whole n.0).zeros })
           (λ h. ap (holds h) (sym e)) (λ p. refl) (λ z x. absurd (false≢true x))
-          (runs-else t.buffers n.0 _ (here_in n.0 r.small) (ap is_pending e) t.low v.running)
+          (runs_else t.buffers n.0 _ (here_in n.0 r.small) (ap is_pending e) t.low v.running)
       go (Old s x) e = v
 
-  pub complete-valid : (k : Key) → ValidTranslator (complete_split t k).next
+  pub complete_valid : (k : Key) → ValidTranslator (complete_split t k).next
   unfolding complete_split
-  complete-valid k = complete-at k (find (holds k) (take t.count t.buffers)) (find-says (holds k) t.count t.buffers)
+  complete_valid k = complete_at_lem k (find (holds k) (take t.count t.buffers)) (find_says (holds k) t.count t.buffers)
 
-  launch-at : (e : Earliest) → ValidTranslator (launch_at t e).next
-  launch-at NonePending = v
-  launch-at (Stored n p) = go (at t.buffers n.0).slot refl
+  launch_at_lem : (e : Earliest) → ValidTranslator (launch_at t e).next
+  launch_at_lem NonePending = v
+  launch_at_lem (Stored n p) = go (at t.buffers n.0).slot refl
     where
       go : (s : Slot) → (at t.buffers n.0).slot ≡ s → ValidTranslator (launched t n (at t.buffers n.0).payload s).next
       go Empty e = v
-      go (Pending s q) e = with-low t v (Running n) (ap is_pending e)
+      go (Pending s q) e = with_low_lem t v (Running n) (ap is_pending e)
       go (Ready s r) e = v
       go (Old s r) e = v
 
-  pub launch-valid : ValidTranslator (launch t).next
+  pub launch_valid : ValidTranslator (launch t).next
   unfolding launch
-  launch-valid = go t.low
+  launch_valid = go t.low
     where
       go : (l : LowSide) → ValidTranslator (launch_by t l).next
-      go Idle = launch-at (earliest (take t.count t.buffers))
+      go Idle = launch_at_lem (earliest (take t.count t.buffers))
       go (Running n) = v
       go Abandoned = v
 
-  deliver-to : (r : DeviceResult) (l : List ℕ) (n : BufferNumber) → result_length r (length l) ≡ true → is_pending (at t.buffers n.0).slot ≡ true
+  deliver_to : (r : DeviceResult) (l : List ℕ) (n : BufferNumber) → result_length r (length l) ≡ true → is_pending (at t.buffers n.0).slot ≡ true
       → (s : Slot) → (at t.buffers n.0).slot ≡ s → ValidTranslator (delivered t r l n s).next
-  deliver-to r l n fits w Empty e = v
-  deliver-to r l n fits w (Ready s x) e = v
-  deliver-to r l n fits w (Old s x) e = v
-  deliver-to r l n fits w (Pending s p) e = go (suits s.pid r) refl
+  deliver_to r l n fits w Empty e = v
+  deliver_to r l n fits w (Ready s x) e = v
+  deliver_to r l n fits w (Old s x) e = v
+  deliver_to r l n fits w (Pending s p) e = go (suits s.pid r) refl
     where
       b : Buffer
       b = record { slot = Ready s r; payload = payload_of l }
@@ -377,84 +377,84 @@ module _ (t : Translator) (v : ValidTranslator t) where
           → ValidTranslator (cond x (record { next = record { buffers = set t.buffers n.0 b; count = t.count; low = Idle }; answer = answer.Done }) (undelivered t answer.NotInThisState)).next
       go true x =
           goes_on n b Idle (in_use t v is_pending refl n.0 w)
-          (record { fits = rw (numbers, len_of l (result-le r (length l) fits)) fits; zeros = zeros_of l })
+          (record { fits = rw (numbers, len_of l (result_le r (length l) fits)) fits; zeros = zeros_of l })
           (λ k. ap (holds k) (sym e)) (λ q. refl) (λ z x. ap (active_in z) e ∙ x) tt
       go false x = v
 
-  deliver-by : (r : DeviceResult) (l : List ℕ) → result_length r (length l) ≡ true → (low : LowSide) → RunsPending t.buffers low → ValidTranslator (deliver_by t r l low).next
-  deliver-by r l fits Idle w = v
-  deliver-by r l fits (Running n) w = deliver-to r l n fits w (at t.buffers n.0).slot refl
-  deliver-by r l fits Abandoned w = with-low t v Idle tt
+  deliver_by_lem : (r : DeviceResult) (l : List ℕ) → result_length r (length l) ≡ true → (low : LowSide) → RunsPending t.buffers low → ValidTranslator (deliver_by t r l low).next
+  deliver_by_lem r l fits Idle w = v
+  deliver_by_lem r l fits (Running n) w = deliver_to r l n fits w (at t.buffers n.0).slot refl
+  deliver_by_lem r l fits Abandoned w = with_low_lem t v Idle tt
 
-  pub deliver-valid : (r : DeviceResult) (l : List ℕ) → ValidTranslator (deliver t r l).next
+  pub deliver_valid : (r : DeviceResult) (l : List ℕ) → ValidTranslator (deliver t r l).next
   unfolding deliver
-  deliver-valid r l = go (result_length r (length l)) refl
+  deliver_valid r l = go (result_length r (length l)) refl
     where
       go : (x : Bool) → result_length r (length l) ≡ x → ValidTranslator (cond x (deliver_by t r l t.low) (undelivered t answer.Outside)).next
-      go true e = deliver-by r l e t.low v.running
+      go true e = deliver_by_lem r l e t.low v.running
       go false e = v
 
-  low-without : (n : BufferNumber) → n.0 < t.count → (l : LowSide) → RunsPending t.buffers l → RunsPending (set t.buffers n.0 vacant) (low_without n l)
-  low-without n used Idle w = tt
-  low-without n used Abandoned w = tt
-  low-without n used (Running m) w = go (eqb m.0 n.0) refl
+  low_without_lem : (n : BufferNumber) → n.0 < t.count → (l : LowSide) → RunsPending t.buffers l → RunsPending (set t.buffers n.0 vacant) (low_without n l)
+  low_without_lem n used Idle w = tt
+  low_without_lem n used Abandoned w = tt
+  low_without_lem n used (Running m) w = go (eqb m.0 n.0) refl
     where
       go : (x : Bool) → eqb m.0 n.0 ≡ x → RunsPending (set t.buffers n.0 vacant) (cond x Abandoned (Running m))
       go true e = tt
-      go false e = waits-else t.buffers n.0 vacant (here_in n.0 used) m.0 (eqb-false m.0 n.0 e) w
+      go false e = waits_else t.buffers n.0 vacant (here_in n.0 used) m.0 (eqb-false m.0 n.0 e) w
 
   clear_at_lem : (k : Key) (f : Found) → FindSays (holds k) t.count t.buffers f → ValidTranslator (clear_at t f)
   clear_at_lem k Nowhere r = v
   clear_at_lem k (At n) r =
-      valid-set t v n.0 vacant (low_without n t.low) r.small vacant-whole (λ h e. absurd (false≢true e)) (λ p e. absurd (false≢true e))
-      (few-set t v n.0 vacant r.small (λ z e. absurd (false≢true e)))
-      (low-without n r.small t.low v.running)
+      valid_set t v n.0 vacant (low_without n t.low) r.small vacant-whole (λ h e. absurd (false≢true e)) (λ p e. absurd (false≢true e))
+      (few_set t v n.0 vacant r.small (λ z e. absurd (false≢true e)))
+      (low_without_lem n r.small t.low v.running)
 
-  pub clear-valid : (k : Key) → ValidTranslator (clear_buffer t k)
+  pub clear_valid : (k : Key) → ValidTranslator (clear_buffer t k)
   unfolding clear_buffer
-  clear-valid k = clear_at_lem k (find (holds k) (take t.count t.buffers)) (find-says (holds k) t.count t.buffers)
+  clear_valid k = clear_at_lem k (find (holds k) (take t.count t.buffers)) (find_says (holds k) t.count t.buffers)
 
   -- ---- ResetTT from a lane
 
   -- what an emptied buffer fails, it passed before
-  passed-before : (z : Lane) (f : Slot → Bool) → f Empty ≡ false → (b : Buffer) → f (without_lane z b).slot ≡ true → f b.slot ≡ true
-  passed-before z f none b = go (in_lane z b.slot)
+  passed_before : (z : Lane) (f : Slot → Bool) → f Empty ≡ false → (b : Buffer) → f (without_lane z b).slot ≡ true → f b.slot ≡ true
+  passed_before z f none b = go (in_lane z b.slot)
     where
       go : (x : Bool) → f (cond x vacant b).slot ≡ true → f b.slot ≡ true
       go true e = absurd (true≢false (sym e ∙ none))
       go false e = e
 
-  passed-at : (z : Lane) (f : Slot → Bool) → f Empty ≡ false → (i : ℕ) → f (at (map (without_lane z) t.buffers) i).slot ≡ true → f (at t.buffers i).slot ≡ true
-  passed-at z f none i e = passed-before z f none (at t.buffers i) (ap (λ (b : Buffer). f b.slot) (sym (at-without-lane z t.buffers i)) ∙ e)
+  passed_at : (z : Lane) (f : Slot → Bool) → f Empty ≡ false → (i : ℕ) → f (at (map (without_lane z) t.buffers) i).slot ≡ true → f (at t.buffers i).slot ≡ true
+  passed_at z f none i e = passed_before z f none (at t.buffers i) (ap (λ (b : Buffer). f b.slot) (sym (at-without_lane z t.buffers i)) ∙ e)
 
-  low-reset : (z : Lane) (l : LowSide) → RunsPending t.buffers l → RunsPending (map (without_lane z) t.buffers) (low_without_lane z t.buffers l)
-  low-reset z Idle w = tt
-  low-reset z Abandoned w = tt
-  low-reset z (Running n) w = go (in_lane z (at t.buffers n.0).slot) refl
+  low_reset : (z : Lane) (l : LowSide) → RunsPending t.buffers l → RunsPending (map (without_lane z) t.buffers) (low_without_lane z t.buffers l)
+  low_reset z Idle w = tt
+  low_reset z Abandoned w = tt
+  low_reset z (Running n) w = go (in_lane z (at t.buffers n.0).slot) refl
     where
       go : (x : Bool) → in_lane z (at t.buffers n.0).slot ≡ x → RunsPending (map (without_lane z) t.buffers) (cond x Abandoned (Running n))
       go true e = tt
       go false e =
-          ap (λ (b : Buffer). is_pending b.slot) (at-without-lane z t.buffers n.0)
+          ap (λ (b : Buffer). is_pending b.slot) (at-without_lane z t.buffers n.0)
           ∙ (ap (λ (x : Bool). is_pending (cond x vacant (at t.buffers n.0)).slot) e ∙ w)
 
-  pub reset-valid : (z : Lane) → ValidTranslator (reset_lane t z)
+  pub reset_valid : (z : Lane) → ValidTranslator (reset_lane t z)
   unfolding reset_lane
-  reset-valid z =
+  reset_valid z =
       record {
         least = v.least;
         most = v.most;
         four = length-map t.buffers (without_lane z) ∙ v.four;
-        spare = λ i h. at-without-lane z t.buffers i ∙ ap (without_lane z) (v.spare i h);
-        whole = λ i. subst Whole (sym (at-without-lane z t.buffers i)) (whole-without (at t.buffers i) (v.whole i));
-        keys = λ k i j e f. v.keys k i j (passed-at z (holds k) refl i e) (passed-at z (holds k) refl j f);
-        places = λ p i j e f. v.places p i j (passed-at z (at_place p) refl i e) (passed-at z (at_place p) refl j f);
-        lanes = λ y. omega (arith, tally-map-le (active_in y) (without_lane z) (passed-before z (active_in y) refl) t.buffers, v.lanes y);
-        running = low-reset z t.low v.running;
+        spare = λ i h. at-without_lane z t.buffers i ∙ ap (without_lane z) (v.spare i h);
+        whole = λ i. subst Whole (sym (at-without_lane z t.buffers i)) (whole_without (at t.buffers i) (v.whole i));
+        keys = λ k i j e f. v.keys k i j (passed_at z (holds k) refl i e) (passed_at z (holds k) refl j f);
+        places = λ p i j e f. v.places p i j (passed_at z (at_place p) refl i e) (passed_at z (at_place p) refl j f);
+        lanes = λ y. omega (arith, tally_map_le (active_in y) (without_lane z) (passed_before z (active_in y) refl) t.buffers, v.lanes y);
+        running = low_reset z t.low v.running;
       }
     where
-      whole-without : (b : Buffer) → Whole b → Whole (without_lane z b)
-      whole-without b w = go (in_lane z b.slot)
+      whole_without : (b : Buffer) → Whole b → Whole (without_lane z b)
+      whole_without b w = go (in_lane z b.slot)
         where
           go : (x : Bool) → Whole (cond x vacant b)
           go true = vacant-whole

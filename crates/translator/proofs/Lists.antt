@@ -39,31 +39,31 @@ four d (a ∷ b ∷ c ∷ f ∷ g ∷ l) e = absurd (omega (arith, e))
 
 module _ (d : Slot) (ss : List Slot) (long : length ss ≡ 4) where
   -- a tally by its four tests
-  pub tally-four : (f : Slot → Bool) {b₀ b₁ b₂ b₃ : Bool} {n : ℕ} → n ≡ bit b₀ + (bit b₁ + (bit b₂ + bit b₃))
+  pub tally_four : (f : Slot → Bool) {b₀ b₁ b₂ b₃ : Bool} {n : ℕ} → n ≡ bit b₀ + (bit b₁ + (bit b₂ + bit b₃))
       → b₀ ≡ f (get_or ss 0 d) → b₁ ≡ f (get_or ss 1 d) → b₂ ≡ f (get_or ss 2 d) → b₃ ≡ f (get_or ss 3 d) → n ≡ tally f (bare ss)
   unfolding tally bare
-  tally-four f e e₀ e₁ e₂ e₃ = rw (e, e₀, e₁, e₂, e₃) (omega (arith, ap (λ (l : List Slot). tally f (bare l)) (four d ss long)))
+  tally_four f e e₀ e₁ e₂ e₃ = rw (e, e₀, e₁, e₂, e₃) (omega (arith, ap (λ (l : List Slot). tally f (bare l)) (four d ss long)))
 
 module _ (d : Buffer) (bs : List Buffer) (long : length bs ≡ 4) where
   -- their slots
-  pub slots-four : (get_or bs 0 d).slot ∷ (get_or bs 1 d).slot ∷ (get_or bs 2 d).slot ∷ (get_or bs 3 d).slot ∷ [] ≡ slots_in bs
-  slots-four = sym (ap slots_in (four d bs long))
+  pub slots_four : (get_or bs 0 d).slot ∷ (get_or bs 1 d).slot ∷ (get_or bs 2 d).slot ∷ (get_or bs 3 d).slot ∷ [] ≡ slots_in bs
+  slots_four = sym (ap slots_in (four d bs long))
 
   -- what a function makes of each of the four
-  pub ranked-four : {ss : List Slot} {r₀ r₁ r₂ r₃ : Buffer} → ss ≡ slots_in bs
+  pub ranked_four : {ss : List Slot} {r₀ r₁ r₂ r₃ : Buffer} → ss ≡ slots_in bs
       → r₀ ≡ ranked_in (bare ss) (get_or bs 0 d) → r₁ ≡ ranked_in (bare ss) (get_or bs 1 d) → r₂ ≡ ranked_in (bare ss) (get_or bs 2 d) → r₃ ≡ ranked_in (bare ss) (get_or bs 3 d)
       → r₀ ∷ r₁ ∷ r₂ ∷ r₃ ∷ [] ≡ ranked bs
   unfolding ranked
-  ranked-four e e₀ e₁ e₂ e₃ =
+  ranked_four e e₀ e₁ e₂ e₃ =
       rw (e₀, e₁, e₂, e₃, e, ranked_in-bare bs (get_or bs 0 d), ranked_in-bare bs (get_or bs 1 d), ranked_in-bare bs (get_or bs 2 d), ranked_in-bare bs (get_or bs 3 d))
       (sym (ap (map (ranked_in bs)) (four d bs long)))
 
-  pub reset-four : (l : Lane) {r₀ r₁ r₂ r₃ : Buffer} → r₀ ≡ without_lane l (get_or bs 0 d) → r₁ ≡ without_lane l (get_or bs 1 d) → r₂ ≡ without_lane l (get_or bs 2 d)
+  pub reset_four : (l : Lane) {r₀ r₁ r₂ r₃ : Buffer} → r₀ ≡ without_lane l (get_or bs 0 d) → r₁ ≡ without_lane l (get_or bs 1 d) → r₂ ≡ without_lane l (get_or bs 2 d)
       → r₃ ≡ without_lane l (get_or bs 3 d) → r₀ ∷ r₁ ∷ r₂ ∷ r₃ ∷ [] ≡ map (without_lane l) bs
-  reset-four l e₀ e₁ e₂ e₃ = rw (e₀, e₁, e₂, e₃) (sym (ap (map (without_lane l)) (four d bs long)))
+  reset_four l e₀ e₁ e₂ e₃ = rw (e₀, e₁, e₂, e₃) (sym (ap (map (without_lane l)) (four d bs long)))
 
 -- the emptied buffers and the low side make the translator
-pub put-together : (t : Translator) (l : Lane) {bs : List Buffer} {low : LowSide} → bs ≡ map (without_lane l) t.buffers → low ≡ low_without_lane l t.buffers t.low
+pub put_together : (t : Translator) (l : Lane) {bs : List Buffer} {low : LowSide} → bs ≡ map (without_lane l) t.buffers → low ≡ low_without_lane l t.buffers t.low
     → record { buffers = bs; count = t.count; low = low } ≡ reset_lane t l
 unfolding reset_lane
-put-together t l e f = rw (e, f)
+put_together t l e f = rw (e, f)

@@ -63,10 +63,10 @@ abbrev pub finding : Key → Found → Slot → BufferNumber → Found
 finding k Nowhere s n = cond (holds k s) (At n) Nowhere
 finding k (At m) s n = At m
 
-found-stays : (k : Key) (n : ℕ) (m : BufferNumber) (bs : List Buffer) → pass (finding k) n (At m) bs ≡ At m
+found_stays : (k : Key) (n : ℕ) (m : BufferNumber) (bs : List Buffer) → pass (finding k) n (At m) bs ≡ At m
 unfolding pass
-found-stays k n m [] = refl
-found-stays k n m (b ∷ bs) = found-stays k (suc n) m bs
+found_stays k n m [] = refl
+found_stays k n m (b ∷ bs) = found_stays k (suc n) m bs
 
 -- counted from number n on
 abbrev shifted : ℕ → Found → Found
@@ -77,30 +77,30 @@ shifted-later : (n : ℕ) (f : Found) → shifted (suc n) f ≡ shifted n (later
 shifted-later n Nowhere = refl
 shifted-later n (At i) = let e : suc n + i.0 ≡ n + suc i.0 = omega arith in rw e
 
-shifted-zero : (f : Found) → shifted 0 f ≡ f
-shifted-zero Nowhere = refl
-shifted-zero (At i) = let z : 0 + i.0 ≡ i.0 = omega arith in rw z
+shifted_zero : (f : Found) → shifted 0 f ≡ f
+shifted_zero Nowhere = refl
+shifted_zero (At i) = let z : 0 + i.0 ≡ i.0 = omega arith in rw z
 
-pass-found : (k : Key) (n : ℕ) (bs : List Buffer) → pass (finding k) n Nowhere bs ≡ shifted n (find (holds k) bs)
+pass_found : (k : Key) (n : ℕ) (bs : List Buffer) → pass (finding k) n Nowhere bs ≡ shifted n (find (holds k) bs)
 unfolding pass find
-pass-found k n [] = refl
-pass-found k n (b ∷ bs) = go (holds k b.slot) (pass-found k (suc n) bs)
+pass_found k n [] = refl
+pass_found k n (b ∷ bs) = go (holds k b.slot) (pass_found k (suc n) bs)
   where
     go : (x : Bool) → pass (finding k) (suc n) Nowhere bs ≡ shifted (suc n) (find (holds k) bs)
         → pass (finding k) (suc n) (cond x (At (record { 0 = n })) Nowhere) bs ≡ shifted n (cond x (At (record { 0 = 0 })) (later (find (holds k) bs)))
-    go true ih = let z : n + 0 ≡ n = omega arith in found-stays k (suc n) (record { 0 = n }) bs ∙ rw z
+    go true ih = let z : n + 0 ≡ n = omega arith in found_stays k (suc n) (record { 0 = n }) bs ∙ rw z
     go false ih = ih ∙ shifted-later n (find (holds k) bs)
 
-pub finding-from : (k : Key) (m : ℕ) (ss : List Slot) → Ahead (finding k) m ss (find (holds k) (take m (bare ss))) 0 Nowhere
-finding-from k m ss = record { rest = pass-found k 0 (take m (bare ss)) ∙ shifted-zero (find (holds k) (take m (bare ss))) }
+pub finding_from : (k : Key) (m : ℕ) (ss : List Slot) → Ahead (finding k) m ss (find (holds k) (take m (bare ss))) 0 Nowhere
+finding_from k m ss = record { rest = pass_found k 0 (take m (bare ss)) ∙ shifted_zero (find (holds k) (take m (bare ss))) }
 
 module _ {k : Key} {m : ℕ} {ss : List Slot} {w : Found} {i : ℕ} where
-  pub not-here : {x : Bool} (d : Slot) → Ahead (finding k) m ss w i Nowhere → x ≡ holds k (get_or ss i d) → x ≡ false → i < m → i < length ss
+  pub not_here : {x : Bool} (d : Slot) → Ahead (finding k) m ss w i Nowhere → x ≡ holds k (get_or ss i d) → x ≡ false → i < m → i < length ss
       → Ahead (finding k) m ss w (i + 1) Nowhere
-  not-here d a e f = onward d a (rw (sym e ∙ f))
+  not_here d a e f = onward d a (rw (sym e ∙ f))
 
   pub found_here : {x : Bool} (d : Slot) → Ahead (finding k) m ss w i Nowhere → x ≡ holds k (get_or ss i d) → x ≡ true → i < m → i < length ss
       → At (record { 0 = i }) ≡ w
   found_here d a e f l n =
       let b : Ahead (finding k) m ss w (i + 1) (At (record { 0 = i })) = onward d a (rw (sym e ∙ f)) l n in
-      sym (found-stays k (i + 1) (record { 0 = i }) (drop (i + 1) (take m (bare ss)))) ∙ b.rest
+      sym (found_stays k (i + 1) (record { 0 = i }) (drop (i + 1) (take m (bare ss)))) ∙ b.rest

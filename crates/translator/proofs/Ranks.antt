@@ -17,7 +17,7 @@ use Rattle.bools.specs.Bit.{bit}
 use Rattle.translator.specs.Valid.{at_place}
 use Rattle.translator.specs.Order.{is_before, waiting, before, reranked, ranked}
 use Rattle.translator.specs.Claims.{RanksKeepOrder}
-use Rattle.translator.proofs.At.{inside, at-ranked, placed-pending, only-place}
+use Rattle.translator.proofs.At.{inside, at-ranked, placed_pending, only-place}
 
 module _ (f g : Slot → Bool) (wider : (s : Slot) → f s ≡ true → g s ≡ true) where
   bit_le : (s : Slot) → bit (f s) ≤ bit (g s)
@@ -27,17 +27,17 @@ module _ (f g : Slot → Bool) (wider : (s : Slot) → f s ≡ true → g s ≡ 
       go true e = rw (wider s e) (omega arith)
       go false e = zero-le
 
-  pub tally-le : (bs : List Buffer) → tally f bs ≤ tally g bs
+  pub tally_le : (bs : List Buffer) → tally f bs ≤ tally g bs
   unfolding tally
-  tally-le [] = zero-le
-  tally-le (b ∷ bs) = omega (arith, bit_le b.slot, tally-le bs)
+  tally_le [] = zero-le
+  tally_le (b ∷ bs) = omega (arith, bit_le b.slot, tally_le bs)
 
   -- one more passes the second test
-  pub tally-lt : (bs : List Buffer) (i : ℕ) → i < length bs → f (at bs i).slot ≡ false → g (at bs i).slot ≡ true → tally f bs < tally g bs
+  pub tally_lt : (bs : List Buffer) (i : ℕ) → i < length bs → f (at bs i).slot ≡ false → g (at bs i).slot ≡ true → tally f bs < tally g bs
   unfolding tally
-  tally-lt [] i n e h = absurd (not-suc-le-zero n)
-  tally-lt (b ∷ bs) zero n e h = rw (e, h) (omega (arith, tally-le bs))
-  tally-lt (b ∷ bs) (suc i) n e h = omega (arith, bit_le b.slot, tally-lt bs i (omega (arith, n)) e h)
+  tally_lt [] i n e h = absurd (not-suc-le-zero n)
+  tally_lt (b ∷ bs) zero n e h = rw (e, h) (omega (arith, tally_le bs))
+  tally_lt (b ∷ bs) (suc i) n e h = omega (arith, bit_le b.slot, tally_lt bs i (omega (arith, n)) e h)
 
 place-before : (p q : ℕ) (s : Slot) → at_place p s ≡ true → is_before q s ≡ ltb p q
 place-before p q Empty e = absurd (false≢true e)
@@ -45,32 +45,32 @@ place-before p q (Pending s r) e = ap (λ (n : ℕ). ltb n q) (eqb-true r p e)
 place-before p q (Ready s r) e = absurd (false≢true e)
 place-before p q (Old s r) e = absurd (false≢true e)
 
-before-wider : (p q : ℕ) → p ≤ q → (s : Slot) → is_before p s ≡ true → is_before q s ≡ true
-before-wider p q l Empty e = e
-before-wider p q l (Pending s r) e = let a : r < p = ltb-true r p e in lt-ltb r q (omega (arith, a, l))
-before-wider p q l (Ready s r) e = e
-before-wider p q l (Old s r) e = e
+before_wider : (p q : ℕ) → p ≤ q → (s : Slot) → is_before p s ≡ true → is_before q s ≡ true
+before_wider p q l Empty e = e
+before_wider p q l (Pending s r) e = let a : r < p = ltb-true r p e in lt-ltb r q (omega (arith, a, l))
+before_wider p q l (Ready s r) e = e
+before_wider p q l (Old s r) e = e
 
-before-pending : (p : ℕ) (s : Slot) → is_before p s ≡ true → is_pending s ≡ true
-before-pending p Empty e = e
-before-pending p (Pending s r) e = refl
-before-pending p (Ready s r) e = e
-before-pending p (Old s r) e = e
+before_pending : (p : ℕ) (s : Slot) → is_before p s ≡ true → is_pending s ≡ true
+before_pending p Empty e = e
+before_pending p (Pending s r) e = refl
+before_pending p (Ready s r) e = e
+before_pending p (Old s r) e = e
 
 module _ (bs : List Buffer) (i p : ℕ) (here : at_place p (at bs i).slot ≡ true) where
   in_list : i < length bs
   in_list = inside (at_place p) refl bs i here
 
-  not-before : is_before p (at bs i).slot ≡ false
-  not-before = place-before p p (at bs i).slot here ∙ le-ltb p p (omega arith)
+  not_before : is_before p (at bs i).slot ≡ false
+  not_before = place-before p p (at bs i).slot here ∙ le-ltb p p (omega arith)
 
   pub rank_lt : (q : ℕ) → p < q → before p bs < before q bs
   rank_lt q l =
-      tally-lt (is_before p) (is_before q) (before-wider p q (omega (arith, l))) bs i in_list not-before
+      tally_lt (is_before p) (is_before q) (before_wider p q (omega (arith, l))) bs i in_list not_before
       (place-before p q (at bs i).slot here ∙ lt-ltb p q l)
 
   pub rank_below : before p bs < waiting bs
-  rank_below = tally-lt (is_before p) is_pending (before-pending p) bs i in_list not-before (placed-pending p (at bs i).slot here)
+  rank_below = tally_lt (is_before p) is_pending (before_pending p) bs i in_list not_before (placed_pending p (at bs i).slot here)
 
 -- the place of a buffer that was numbered anew
 pub reranked-place : (bs : List Buffer) (p : ℕ) (s : Slot) → at_place p (reranked bs s) ≡ true → (q : ℕ) × (at_place q s ≡ true) × (before q bs ≡ p)
@@ -82,8 +82,8 @@ reranked-place bs p (Old s r) e = absurd (false≢true e)
 pub ranked-place : (bs : List Buffer) (i p : ℕ) → at_place p (at (ranked bs) i).slot ≡ true → (q : ℕ) × (at_place q (at bs i).slot ≡ true) × (before q bs ≡ p)
 ranked-place bs i p e = reranked-place bs p (at bs i).slot (ap (λ (b : Buffer). at_place p b.slot) (sym (at-ranked bs i)) ∙ e)
 
-pub ranks-keep-order : RanksKeepOrder
-ranks-keep-order bs i j p q p' q' e f l e' f' =
+pub ranks_keep_order : RanksKeepOrder
+ranks_keep_order bs i j p q p' q' e f l e' f' =
     let x = ranked-place bs i p' e' in
     let y = ranked-place bs j q' f' in
     let a : x.0 ≡ p = only-place x.0 p (at bs i).slot x.1 e in

@@ -17,7 +17,7 @@ use Rattle.buffer.specs.Same.{same_key}
 use Rattle.buffer.specs.Key.{key_of, same_lane}
 use Rattle.buffer.specs.Standing.{standing}
 use Rattle.buffer.specs.Buffer.{holds, is_active, is_free, active_in}
-use Rattle.buffer.proofs.Keys.{lane-refl, same_true}
+use Rattle.buffer.proofs.Keys.{lane_refl, same_true}
 use Rattle.translator.specs.declared.Found.{Found}
 use Rattle.translator.specs.declared.Found.TheVariants.{Nowhere, At}
 use Rattle.translator.specs.declared.Carried.{Carried}
@@ -49,17 +49,17 @@ held-later : (b : Buffer) (bs : List Buffer) (n : ℕ) (f : Found) (h : ℕ) (d 
 held-later b bs n Nowhere h d = refl
 held-later b bs n (At i) h d = let e : suc n + i.0 ≡ n + suc i.0 = omega arith in rw e
 
-free-later : (n : ℕ) (f : Found) (h : ℕ) → free_at (suc n) f h ≡ free_at n (later f) h
-free-later n Nowhere h = refl
-free-later n (At i) h = let e : suc n + i.0 ≡ n + suc i.0 = omega arith in rw e
+free_later : (n : ℕ) (f : Found) (h : ℕ) → free_at (suc n) f h ≡ free_at n (later f) h
+free_later n Nowhere h = refl
+free_later n (At i) h = let e : suc n + i.0 ≡ n + suc i.0 = omega arith in rw e
 
 -- what holds of each standing to the key k holds of a slot's
-by-standing : (k : Key) (P : Standing → Bool → Bool → Type 0) (s : Slot) → (is_active s ≡ true → P Holds true false) → (is_active s ≡ false → P Reusable true true)
+by_standing : (k : Key) (P : Standing → Bool → Bool → Type 0) (s : Slot) → (is_active s ≡ true → P Holds true false) → (is_active s ≡ false → P Reusable true true)
     → P Free false true → P Busy false false → P (standing k s) (holds k s) (is_free s)
-by-standing k P Empty held old free busy = free
-by-standing k P (Pending s p) held old free busy = elim (same_key (key_of s) k) as (λ x. P (cond x Holds Busy) x false) [ true ↦ held refl | false ↦ busy ]
-by-standing k P (Ready s r) held old free busy = elim (same_key (key_of s) k) as (λ x. P (cond x Holds Busy) x false) [ true ↦ held refl | false ↦ busy ]
-by-standing k P (Old s r) held old free busy = elim (same_key (key_of s) k) as (λ x. P (cond x Reusable Free) x true) [ true ↦ old refl | false ↦ free ]
+by_standing k P Empty held old free busy = free
+by_standing k P (Pending s p) held old free busy = elim (same_key (key_of s) k) as (λ x. P (cond x Holds Busy) x false) [ true ↦ held refl | false ↦ busy ]
+by_standing k P (Ready s r) held old free busy = elim (same_key (key_of s) k) as (λ x. P (cond x Holds Busy) x false) [ true ↦ held refl | false ↦ busy ]
+by_standing k P (Old s r) held old free busy = elim (same_key (key_of s) k) as (λ x. P (cond x Reusable Free) x true) [ true ↦ old refl | false ↦ free ]
 
 module _ (k : Key) where
   -- whether a buffer counts for the key's lane
@@ -70,9 +70,9 @@ module _ (k : Key) where
   abbrev all : ℕ → List Buffer → ℕ
   all h bs = h + held_by k.lane bs
 
-  all-later : (h : ℕ) (b : Buffer) (bs : List Buffer) → all (h + one b) bs ≡ all h (b ∷ bs)
+  all_later : (h : ℕ) (b : Buffer) (bs : List Buffer) → all (h + one b) bs ≡ all h (b ∷ bs)
   unfolding tally
-  all-later h b bs = omega arith
+  all_later h b bs = omega arith
 
   all_none : (h : ℕ) → h ≡ all h []
   unfolding tally
@@ -88,16 +88,16 @@ module _ (k : Key) where
   own_old : (n : ℕ) (m : BufferNumber) (h : ℕ) (bs : List Buffer) → pass (looking k) n (OwnOld m h) bs ≡ OwnOld m (all h bs)
   unfolding pass look
   own_old n m h [] = ap (OwnOld m) (all_none h)
-  own_old n m h (b ∷ bs) = own_old (suc n) m (h + one b) bs ∙ ap (OwnOld m) (all-later h b bs)
+  own_old n m h (b ∷ bs) = own_old (suc n) m (h + one b) bs ∙ ap (OwnOld m) (all_later h b bs)
 
   module _ (n : ℕ) (b : Buffer) (bs : List Buffer) where
     -- the first buffer is the holder
-    first-held : is_active b.slot ≡ true → (h : ℕ) (d : Carried) → pass (looking k) (suc n) (Repeat (record { 0 = n })) bs ≡ held_at (b ∷ bs) n (At (record { 0 = 0 })) h d
-    first-held e h d = let z : n + 0 ≡ n = omega arith in settled (suc n) (record { 0 = n }) bs ∙ rw (e, z)
+    first_held : is_active b.slot ≡ true → (h : ℕ) (d : Carried) → pass (looking k) (suc n) (Repeat (record { 0 = n })) bs ≡ held_at (b ∷ bs) n (At (record { 0 = 0 })) h d
+    first_held e h d = let z : n + 0 ≡ n = omega arith in settled (suc n) (record { 0 = n }) bs ∙ rw (e, z)
 
-    first-old : is_active b.slot ≡ false → (h : ℕ) (d : Carried)
+    first_old : is_active b.slot ≡ false → (h : ℕ) (d : Carried)
         → pass (looking k) (suc n) (OwnOld (record { 0 = n }) (h + one b)) bs ≡ held_at (b ∷ bs) n (At (record { 0 = 0 })) (all h (b ∷ bs)) d
-    first-old e h d = let z : n + 0 ≡ n = omega arith in own_old (suc n) (record { 0 = n }) (h + one b) bs ∙ rw (e, z, all-later h b bs)
+    first_old e h d = let z : n + 0 ≡ n = omega arith in own_old (suc n) (record { 0 = n }) (h + one b) bs ∙ rw (e, z, all_later h b bs)
 
   -- with a free buffer in hand, only the key and the lane's count
   lowest : (n : ℕ) (m : BufferNumber) (h : ℕ) (bs : List Buffer)
@@ -107,29 +107,29 @@ module _ (k : Key) where
   lowest n m h (b ∷ bs) =
       let t = all h (b ∷ bs) in
       let next : pass (looking k) (suc n) (LowestFree m (h + one b)) bs ≡ held_at (b ∷ bs) n (later (find (holds k) bs)) t (LowestFree m t) =
-      lowest (suc n) m (h + one b) bs ∙ rw (all-later h b bs) (held-later b bs n (find (holds k) bs) t (LowestFree m t)) in
-      by-standing k
+      lowest (suc n) m (h + one b) bs ∙ rw (all_later h b bs) (held-later b bs n (find (holds k) bs) t (LowestFree m t)) in
+      by_standing k
       (λ st x y. pass (looking k) (suc n) (counted (one b) (past (LowestFree m h) (record { 0 = n }) st)) bs
       ≡ held_at (b ∷ bs) n (cond x (At (record { 0 = 0 })) (later (find (holds k) bs))) t (LowestFree m t))
-      b.slot (λ e. first-held n b bs e t (LowestFree m t)) (λ e. first-old n b bs e h (LowestFree m t)) next next
+      b.slot (λ e. first_held n b bs e t (LowestFree m t)) (λ e. first_old n b bs e h (LowestFree m t)) next next
 
   -- one pass is the two steps and the count
-  one-pass : (n h : ℕ) (bs : List Buffer) → pass (looking k) n (NoneYet h) bs ≡ held_at bs n (find (holds k) bs) (all h bs) (free_at n (find is_free bs) (all h bs))
+  one_pass : (n h : ℕ) (bs : List Buffer) → pass (looking k) n (NoneYet h) bs ≡ held_at bs n (find (holds k) bs) (all h bs) (free_at n (find is_free bs) (all h bs))
   unfolding pass find look
-  one-pass n h [] = ap NoneYet (all_none h)
-  one-pass n h (b ∷ bs) =
+  one_pass n h [] = ap NoneYet (all_none h)
+  one_pass n h (b ∷ bs) =
       let t = all h (b ∷ bs) in
       let here : Carried = free_at n (At (record { 0 = 0 })) t in
       let further : Carried = free_at n (later (find is_free bs)) t in
       let z : n + 0 ≡ n = omega arith in
       let free : pass (looking k) (suc n) (LowestFree (record { 0 = n }) (h + one b)) bs ≡ held_at (b ∷ bs) n (later (find (holds k) bs)) t here =
-      lowest (suc n) (record { 0 = n }) (h + one b) bs ∙ rw (all-later h b bs, z) (held-later b bs n (find (holds k) bs) t (LowestFree (record { 0 = n }) t)) in
+      lowest (suc n) (record { 0 = n }) (h + one b) bs ∙ rw (all_later h b bs, z) (held-later b bs n (find (holds k) bs) t (LowestFree (record { 0 = n }) t)) in
       let busy : pass (looking k) (suc n) (NoneYet (h + one b)) bs ≡ held_at (b ∷ bs) n (later (find (holds k) bs)) t further =
-      one-pass (suc n) (h + one b) bs ∙ rw (all-later h b bs, free-later n (find is_free bs) t) (held-later b bs n (find (holds k) bs) t further) in
-      by-standing k
+      one_pass (suc n) (h + one b) bs ∙ rw (all_later h b bs, free_later n (find is_free bs) t) (held-later b bs n (find (holds k) bs) t further) in
+      by_standing k
       (λ st x y. pass (looking k) (suc n) (counted (one b) (past (NoneYet h) (record { 0 = n }) st)) bs
       ≡ held_at (b ∷ bs) n (cond x (At (record { 0 = 0 })) (later (find (holds k) bs))) t (free_at n (cond y (At (record { 0 = 0 })) (later (find is_free bs))) t))
-      b.slot (λ e. first-held n b bs e t further) (λ e. first-old n b bs e h here) free busy
+      b.slot (λ e. first_held n b bs e t further) (λ e. first_old n b bs e h here) free busy
 
 -- what is carried past all, by the buffer with the key, the free one and how many the lane holds
 abbrev pub ending : List Buffer → Found → Found → ℕ → Carried
@@ -145,7 +145,7 @@ from_zero bs Nowhere Nowhere h = refl
 pub pass-ending : (k : Key) (bs : List Buffer) → carried_by look k bs ≡ ending bs (find (holds k) bs) (find is_free bs) (held_by k.lane bs)
 pass-ending k bs =
     let z : 0 + held_by k.lane bs ≡ held_by k.lane bs = omega arith in
-    one-pass k 0 0 bs ∙ rw z (from_zero bs (find (holds k) bs) (find is_free bs) (held_by k.lane bs))
+    one_pass k 0 0 bs ∙ rw z (from_zero bs (find (holds k) bs) (find is_free bs) (held_by k.lane bs))
 
 -- what is read off is the choice under the limit
 read_off : (b h : ℕ) (bs : List Buffer) (f g : Found) → find is_free bs ≡ g → choice_of b (ending bs f g h) ≡ limited (may_store b h) (choose_held bs f)
@@ -164,11 +164,11 @@ pass-permitted b k bs = ap (choice_of b) (pass-ending k bs) ∙ read_off b (held
 
 -- ---- the code's pass
 
-past-busy : (c : Carried) (n : BufferNumber) → past c n Busy ≡ c
-past-busy (NoneYet h) n = refl
-past-busy (LowestFree m h) n = refl
-past-busy (OwnOld m h) n = refl
-past-busy (Repeat m) n = refl
+past_busy : (c : Carried) (n : BufferNumber) → past c n Busy ≡ c
+past_busy (NoneYet h) n = refl
+past_busy (LowestFree m h) n = refl
+past_busy (OwnOld m h) n = refl
+past_busy (Repeat m) n = refl
 
 counted_none : (c : Carried) → counted 0 c ≡ c
 counted_none (NoneYet h) = let z : h + 0 ≡ h = omega arith in rw z
@@ -184,7 +184,7 @@ Counts Holds x = x ≡ true
 Counts Reusable x = x ≡ false
 
 own_lane : (k : Key) (s : StartSplit) (x : Bool) → same_key (key_of s) k ≡ x → Counts (cond x Holds Busy) (same_lane s.lane k.lane)
-own_lane k s true e = ap (λ (a : Key). same_lane s.lane a.lane) (sym (same_true (key_of s) k e)) ∙ lane-refl s.lane
+own_lane k s true e = ap (λ (a : Key). same_lane s.lane a.lane) (sym (same_true (key_of s) k e)) ∙ lane_refl s.lane
 own_lane k s false e = tt
 
 counts : (k : Key) (s : Slot) → Counts (standing k s) (active_in k.lane s)
@@ -194,28 +194,28 @@ counts k (Ready s r) = own_lane k s (same_key (key_of s) k) refl
 counts k (Old s r) = elim (same_key (key_of s) k) as (λ x. Counts (cond x Reusable Free) false) [ true ↦ refl | false ↦ refl ]
 
 module _ (c : Carried) (n : BufferNumber) (s : Slot) (k : Key) {st : Standing} (stands : st ≡ standing k s) where
-  pub look-counted : {r : Carried} {x : Bool} → st ≡ Busy → x ≡ active_in k.lane s → x ≡ true → r ≡ counted 1 c → r ≡ look c n s k
+  pub look_counted : {r : Carried} {x : Bool} → st ≡ Busy → x ≡ active_in k.lane s → x ≡ true → r ≡ counted 1 c → r ≡ look c n s k
   unfolding look
-  look-counted e f g h = rw (sym stands ∙ e, sym f ∙ g, past-busy c n, h)
+  look_counted e f g h = rw (sym stands ∙ e, sym f ∙ g, past_busy c n, h)
 
-  pub look-other : {x : Bool} → st ≡ Busy → x ≡ active_in k.lane s → x ≡ false → c ≡ look c n s k
+  pub look_other : {x : Bool} → st ≡ Busy → x ≡ active_in k.lane s → x ≡ false → c ≡ look c n s k
   unfolding look
-  look-other e f g = rw (sym stands ∙ e, sym f ∙ g, past-busy c n, counted_none c)
+  look_other e f g = rw (sym stands ∙ e, sym f ∙ g, past_busy c n, counted_none c)
 
-  as-it-stands : {y : Standing} → st ≡ y → Counts y (active_in k.lane s)
-  as-it-stands e = subst (λ (y : Standing). Counts y (active_in k.lane s)) (sym stands ∙ e) (counts k s)
+  as_it_stands : {y : Standing} → st ≡ y → Counts y (active_in k.lane s)
+  as_it_stands e = subst (λ (y : Standing). Counts y (active_in k.lane s)) (sym stands ∙ e) (counts k s)
 
-  pub look-free : {r : Carried} → st ≡ Free → r ≡ past c n Free → r ≡ look c n s k
+  pub look_free : {r : Carried} → st ≡ Free → r ≡ past c n Free → r ≡ look c n s k
   unfolding look
-  look-free e h = let f : active_in k.lane s ≡ false = as-it-stands e in rw (sym stands ∙ e, f, h, counted_none (past c n Free))
+  look_free e h = let f : active_in k.lane s ≡ false = as_it_stands e in rw (sym stands ∙ e, f, h, counted_none (past c n Free))
 
-  pub look-repeat : {r : Carried} → st ≡ Holds → r ≡ counted 1 (past c n Holds) → r ≡ look c n s k
+  pub look_repeat : {r : Carried} → st ≡ Holds → r ≡ counted 1 (past c n Holds) → r ≡ look c n s k
   unfolding look
-  look-repeat e h = let f : active_in k.lane s ≡ true = as-it-stands e in rw (sym stands ∙ e, f, h)
+  look_repeat e h = let f : active_in k.lane s ≡ true = as_it_stands e in rw (sym stands ∙ e, f, h)
 
-  pub look-old : {r : Carried} → st ≡ Reusable → r ≡ past c n Reusable → r ≡ look c n s k
+  pub look_old : {r : Carried} → st ≡ Reusable → r ≡ past c n Reusable → r ≡ look c n s k
   unfolding look
-  look-old e h = let f : active_in k.lane s ≡ false = as-it-stands e in rw (sym stands ∙ e, f, h, counted_none (past c n Reusable))
+  look_old e h = let f : active_in k.lane s ≡ false = as_it_stands e in rw (sym stands ∙ e, f, h, counted_none (past c n Reusable))
 
 -- past one more buffer the lane holds at most one more
 one_more : (c : Carried) (n : BufferNumber) (st : Standing) (x : Bool) → held_so_far (counted (bit x) (past c n st)) ≤ held_so_far c + 1
@@ -249,12 +249,12 @@ unfolding look
 few c n s k e l = rw e (omega (arith, one_more c n (standing k s) (active_in k.lane s), l))
 
 -- it starts with nothing in hand, ..
-pub looking-from : (k : Key) (m : ℕ) (ss : List Slot) → Ahead (looking k) m ss (carried_by look k (take m (bare ss))) 0 (NoneYet 0)
-looking-from k m ss = record { rest = refl }
+pub looking_from : (k : Key) (m : ℕ) (ss : List Slot) → Ahead (looking k) m ss (carried_by look k (take m (bare ss))) 0 (NoneYet 0)
+looking_from k m ss = record { rest = refl }
 
 -- .. and may end where it is settled
-pub ends-settled : (k : Key) {m : ℕ} {ss : List Slot} {w : Carried} {i : ℕ} (c : Carried) → Ahead (looking k) m ss w i c → is_settled c ≡ true → c ≡ w
-ends-settled k (NoneYet h) a e = absurd (false≢true e)
-ends-settled k (LowestFree n h) a e = absurd (false≢true e)
-ends-settled k (OwnOld n h) a e = absurd (false≢true e)
-ends-settled k {m} {ss} {i = i} (Repeat n) a e = sym (settled k i n (drop i (take m (bare ss)))) ∙ a.rest
+pub ends_settled : (k : Key) {m : ℕ} {ss : List Slot} {w : Carried} {i : ℕ} (c : Carried) → Ahead (looking k) m ss w i c → is_settled c ≡ true → c ≡ w
+ends_settled k (NoneYet h) a e = absurd (false≢true e)
+ends_settled k (LowestFree n h) a e = absurd (false≢true e)
+ends_settled k (OwnOld n h) a e = absurd (false≢true e)
+ends_settled k {m} {ss} {i = i} (Repeat n) a e = sym (settled k i n (drop i (take m (bare ss)))) ∙ a.rest

@@ -29,7 +29,7 @@ use Rattle.translator.specs.StartSplit.{start_split}
 use Rattle.translator.specs.OnePass.{past, look, OnePass}
 use Rattle.translator.specs.SearchMistakes.{look_by, highest_free, stops_at_free, own_old_unseen, number_lost, first_skipped, uncounted, old_counted, SearchMistakesShutOut}
 use Rattle.translator.specs.SearchCases.{own, second, across, b0, b1}
-use Rattle.translator.proofs.OnePass.{one-pass-claim}
+use Rattle.translator.proofs.OnePass.{one_pass_claim_lem}
 
 abbrev key : Key
 key = key_of own
@@ -61,61 +61,61 @@ unfolding look
 own-look c n s k = refl
 
 -- buffer 1 is taken, where buffer 0 is empty
-highest-free : ¬ (OnePass (look_by highest_free))
+highest_free_lem : ¬ (OnePass (look_by highest_free))
 unfolding pass bare
-highest-free p = ((p.exactly (with (Empty ∷ Empty ∷ [])) key (Took b1)).0 refl).1.1.none-lower 0 (suc-le-suc zero-le) tt
+highest_free_lem p = ((p.exactly (with (Empty ∷ Empty ∷ [])) key (Took b1)).0 refl).1.1.none_lower 0 (suc-le-suc zero-le) tt
 
 -- buffer 0 is to be taken, and isn't
-first-skipped : ¬ (OnePass first_skipped)
+first_skipped_lem : ¬ (OnePass first_skipped)
 unfolding pass bare look
-first-skipped p =
+first_skipped_lem p =
     let t = with (Empty ∷ Empty ∷ []) in
-    let e : ◌≡◌ {A = ℕ} 1 0 = ap told ((p.exactly t key (Took b0)).1 ((one-pass-claim.exactly t key (Took b0)).0 refl)) in
+    let e : ◌≡◌ {A = ℕ} 1 0 = ap told ((p.exactly t key (Took b0)).1 ((one_pass_claim_lem.exactly t key (Took b0)).0 refl)) in
     absurd (omega (arith, e))
 
 -- past an old buffer of the lane one is counted
-old-counted : ¬ (OnePass old_counted)
+old_counted_lem : ¬ (OnePass old_counted)
 unfolding pass bare tally same_key
-old-counted p =
+old_counted_lem p =
     let e : ◌≡◌ {A = ℕ} 1 0 = (p.carries (with (Old second Data0 ∷ [])) key).1.1 in
     absurd (omega (arith, e))
 
 -- a start-split is answered as a repeat, and the pass takes buffer 0
-stops-at-free : ¬ (OnePass (look_by stops_at_free))
+stops_at_free_lem : ¬ (OnePass (look_by stops_at_free))
 unfolding pass find chosen bare tally same_key numbers_fit start_fits permitted start_split
-stops-at-free p =
+stops_at_free_lem p =
     let e : ◌≡◌ {A = ℕ} 20 0 = ap answer_told (p.answered (with (Empty ∷ Pending own 0 ∷ Empty ∷ [])) own [] refl) in
     absurd (omega (arith, e))
 
 -- the slots have an own old one, and the pass takes buffer 0
-own-old-unseen : ¬ (OnePass (look_by own_old_unseen))
+own_old_unseen_lem : ¬ (OnePass (look_by own_old_unseen))
 unfolding pass find chosen bare tally same_key permitted
-own-old-unseen p =
+own_old_unseen_lem p =
     let e : ◌≡◌ {A = ℕ} 30 0 = ap told (p.of_slots (with (Empty ∷ Old own Data0 ∷ [])) key) in
     absurd (omega (arith, e))
 
 -- behind one of the own lane and one of the other the same is carried, and the choice differs
-uncounted-out : ¬ (OnePass uncounted)
+uncounted_out : ¬ (OnePass uncounted)
 unfolding pass find chosen bare tally same_key permitted
-uncounted-out p =
-    let e : ◌≡◌ {A = ℕ} 11 1 = ap told (p.carried-alone 2 key (bare (Pending second 0 ∷ [])) (bare (Pending across 0 ∷ [])) (bare (Empty ∷ [])) refl refl) in
+uncounted_out p =
+    let e : ◌≡◌ {A = ℕ} 11 1 = ap told (p.carried_alone 2 key (bare (Pending second 0 ∷ [])) (bare (Pending across 0 ∷ [])) (bare (Empty ∷ [])) refl refl) in
     absurd (omega (arith, e))
 
 -- past a repeat another buffer is carried
-number-lost : ¬ (OnePass (look_by number_lost))
-number-lost p =
+number_lost_lem : ¬ (OnePass (look_by number_lost))
+number_lost_lem p =
     let e : ◌≡◌ {A = ℕ} 1 0 = ap settled_told (p.settled (Repeat b0) b1 Empty key refl) in
     absurd (omega (arith, e))
 
-pub search-mistakes : SearchMistakesShutOut
-search-mistakes =
+pub search_mistakes_lem : SearchMistakesShutOut
+search_mistakes_lem =
     record {
       own = own-look;
-      highest-free = highest-free;
-      stops-at-free = stops-at-free;
-      own-old-unseen = own-old-unseen;
-      number-lost = number-lost;
-      first-skipped = first-skipped;
-      uncounted = uncounted-out;
-      old-counted = old-counted;
+      highest_free_lem = highest_free_lem;
+      stops_at_free_lem = stops_at_free_lem;
+      own_old_unseen_lem = own_old_unseen_lem;
+      number_lost_lem = number_lost_lem;
+      first_skipped_lem = first_skipped_lem;
+      uncounted = uncounted_out;
+      old_counted_lem = old_counted_lem;
     }

@@ -33,10 +33,10 @@ unfolding stored
 made t n s l e f g h i = rw (e, f, g, h, i, waiting-bare t.buffers)
 
 -- what was chosen decides
-pub by-choice : (t : Translator) (s : StartSplit) (l : List ℕ) {k : Key} (c : Choice) → start_fits s (length l) ≡ true → k ≡ key_of s
+pub by_choice : (t : Translator) (s : StartSplit) (l : List ℕ) {k : Key} (c : Choice) → start_fits s (length l) ≡ true → k ≡ key_of s
     → c ≡ permitted t.count k (take t.count t.buffers) → start_by t s l c ≡ start_split t s l
 unfolding start_split
-by-choice t s l c f e g = rw (f, ← e, ← g)
+by_choice t s l c f e g = rw (f, ← e, ← g)
 
 -- and is answered
 by_answer : (t : Translator) (s : StartSplit) (l : List ℕ) (c : Choice) → (start_by t s l c).answer ≡ Chosen c
@@ -46,7 +46,7 @@ by_answer t s l (Held n) = refl
 by_answer t s l (Reused n) = refl
 by_answer t s l (Took n) = refl
 
-pub chosen-answer : (t : Translator) (s : StartSplit) (l : List ℕ) → start_fits s (length l) ≡ true
+pub chosen_answer : (t : Translator) (s : StartSplit) (l : List ℕ) → start_fits s (length l) ≡ true
     → (start_split t s l).answer ≡ Chosen (permitted t.count (key_of s) (take t.count t.buffers))
 unfolding start_split
-chosen-answer t s l e = rw e (by_answer t s l (permitted t.count (key_of s) (take t.count t.buffers)))
+chosen_answer t s l e = rw e (by_answer t s l (permitted t.count (key_of s) (take t.count t.buffers)))

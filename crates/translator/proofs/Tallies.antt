@@ -13,44 +13,44 @@ use Rattle.buffer.specs.Buffer.{vacant}
 use Rattle.translator.specs.Translator.{at, tally}
 use Rattle.bools.specs.Bit.{bit}
 
-pub bits-le : (x y : Bool) → (x ≡ true → y ≡ true) → bit x ≤ bit y
-bits-le true y w = rw (w refl) (omega arith)
-bits-le false y w = zero-le
+pub bits_le : (x y : Bool) → (x ≡ true → y ≡ true) → bit x ≤ bit y
+bits_le true y w = rw (w refl) (omega arith)
+bits_le false y w = zero-le
 
 module _ (f : Slot → Bool) where
   -- one buffer changed
-  pub tally-set : (bs : List Buffer) (i : ℕ) (b : Buffer) → i < length bs → tally f (set bs i b) + bit (f (at bs i).slot) ≡ tally f bs + bit (f b.slot)
+  pub tally_set : (bs : List Buffer) (i : ℕ) (b : Buffer) → i < length bs → tally f (set bs i b) + bit (f (at bs i).slot) ≡ tally f bs + bit (f b.slot)
   unfolding tally
-  tally-set [] i b h = absurd (not-suc-le-zero h)
-  tally-set (c ∷ bs) zero b h = omega arith
-  tally-set (c ∷ bs) (suc i) b h = omega (arith, tally-set bs i b (omega (arith, h)))
+  tally_set [] i b h = absurd (not-suc-le-zero h)
+  tally_set (c ∷ bs) zero b h = omega arith
+  tally_set (c ∷ bs) (suc i) b h = omega (arith, tally_set bs i b (omega (arith, h)))
 
   -- it passes the test only if the one before it did
   pub no_more : (bs : List Buffer) (i : ℕ) (b : Buffer) → i < length bs → (f b.slot ≡ true → f (at bs i).slot ≡ true) → tally f (set bs i b) ≤ tally f bs
-  no_more bs i b h w = omega (arith, tally-set bs i b h, bits-le (f b.slot) (f (at bs i).slot) w)
+  no_more bs i b h w = omega (arith, tally_set bs i b h, bits_le (f b.slot) (f (at bs i).slot) w)
 
   -- each buffer changed
-  pub tally-map : (g : Buffer → Buffer) → ((b : Buffer) → f (g b).slot ≡ f b.slot) → (bs : List Buffer) → tally f (map g bs) ≡ tally f bs
+  pub tally_map : (g : Buffer → Buffer) → ((b : Buffer) → f (g b).slot ≡ f b.slot) → (bs : List Buffer) → tally f (map g bs) ≡ tally f bs
   unfolding tally
-  tally-map g e [] = refl
-  tally-map g e (b ∷ bs) = rw (e b, tally-map g e bs)
+  tally_map g e [] = refl
+  tally_map g e (b ∷ bs) = rw (e b, tally_map g e bs)
 
-  pub tally-map-le : (g : Buffer → Buffer) → ((b : Buffer) → f (g b).slot ≡ true → f b.slot ≡ true) → (bs : List Buffer) → tally f (map g bs) ≤ tally f bs
+  pub tally_map_le : (g : Buffer → Buffer) → ((b : Buffer) → f (g b).slot ≡ true → f b.slot ≡ true) → (bs : List Buffer) → tally f (map g bs) ≤ tally f bs
   unfolding tally
-  tally-map-le g w [] = zero-le
-  tally-map-le g w (b ∷ bs) = omega (arith, bits-le (f (g b).slot) (f b.slot) (w b), tally-map-le g w bs)
+  tally_map_le g w [] = zero-le
+  tally_map_le g w (b ∷ bs) = omega (arith, bits_le (f (g b).slot) (f b.slot) (w b), tally_map_le g w bs)
 
   module _ (none : f Empty ≡ false) where
-    tally-none : (bs : List Buffer) → ((i : ℕ) → at bs i ≡ vacant) → tally f bs ≡ 0
+    tally_none : (bs : List Buffer) → ((i : ℕ) → at bs i ≡ vacant) → tally f bs ≡ 0
     unfolding tally
-    tally-none [] e = refl
-    tally-none (b ∷ bs) e =
+    tally_none [] e = refl
+    tally_none (b ∷ bs) e =
         let x : bit (f b.slot) ≡ 0 = ap (λ (c : Buffer). bit (f c.slot)) (e 0) ∙ ap bit none in
-        omega (arith, x, tally-none bs (λ i. e (suc i)))
+        omega (arith, x, tally_none bs (λ i. e (suc i)))
 
     -- past the first m all are empty
-    pub tally-take : (m : ℕ) (bs : List Buffer) → ((i : ℕ) → m ≤ i → at bs i ≡ vacant) → tally f (take m bs) ≡ tally f bs
+    pub tally_take : (m : ℕ) (bs : List Buffer) → ((i : ℕ) → m ≤ i → at bs i ≡ vacant) → tally f (take m bs) ≡ tally f bs
     unfolding tally
-    tally-take zero bs e = omega (arith, tally-none bs (λ i. e i zero-le))
-    tally-take (suc m) [] e = refl
-    tally-take (suc m) (b ∷ bs) e = ap (λ (n : ℕ). bit (f b.slot) + n) (tally-take m bs (λ i h. e (suc i) (omega (arith, h))))
+    tally_take zero bs e = omega (arith, tally_none bs (λ i. e i zero-le))
+    tally_take (suc m) [] e = refl
+    tally_take (suc m) (b ∷ bs) e = ap (λ (n : ℕ). bit (f b.slot) + n) (tally_take m bs (λ i h. e (suc i) (omega (arith, h))))

@@ -112,16 +112,16 @@ pub record LaneReset : Type 0 where
   pub abandoned : (t : Translator) (l : Lane) (n : BufferNumber) → t.low ≡ Running n → in_lane l (at t.buffers n.0).slot ≡ true → (reset_lane t l).low ≡ Abandoned
   pub runs_on : (t : Translator) (l : Lane) (n : BufferNumber) → t.low ≡ Running n → in_lane l (at t.buffers n.0).slot ≡ false → (reset_lane t l).low ≡ Running n
   pub idle : (t : Translator) (l : Lane) → t.low ≡ Idle → (reset_lane t l).low ≡ Idle
-  pub stays-abandoned : (t : Translator) (l : Lane) → t.low ≡ Abandoned → (reset_lane t l).low ≡ Abandoned
+  pub stays_abandoned : (t : Translator) (l : Lane) → t.low ≡ Abandoned → (reset_lane t l).low ≡ Abandoned
 
 pub record TranslatorClaims : Type 0 where
-  pub stays-valid : StaysValid
-  pub refused-same : RefusedSame
-  pub ranks-keep-order : RanksKeepOrder
-  pub launches-earliest : LaunchesEarliest
+  pub stays_valid : StaysValid
+  pub refused_same : RefusedSame
+  pub ranks_keep_order : RanksKeepOrder
+  pub launches_earliest : LaunchesEarliest
   pub stored_last : StoredLast
-  pub same-again : SameAgain
-  pub old-kept : OldKept
-  pub abandoned-dropped : AbandonedDropped
-  pub lane-limit : LaneLimit
-  pub lane-reset : LaneReset
+  pub same_again : SameAgain
+  pub old_kept : OldKept
+  pub abandoned_dropped : AbandonedDropped
+  pub lane_limit : LaneLimit
+  pub lane_reset : LaneReset

@@ -108,13 +108,13 @@ pub record OnePass (f : Looking) : Type 0 where
   -- the choice is document 01's two steps, of every translator and key
   pub exactly : (t : Translator) (k : Key) (c : Choice) → (choice_by f t k ≡ c) ↔ TwoSteps t k c
   -- (a buffer with the key is the lowest-numbered one with it in every valid translator: no key is held twice there)
-  pub one-holder : (t : Translator) (k : Key) (n : BufferNumber) → ValidTranslator t → Buffered (With k) t n → Lowest (With k) t n
+  pub one_holder : (t : Translator) (k : Key) (n : BufferNumber) → ValidTranslator t → Buffered (With k) t n → Lowest (With k) t n
   -- it is what every start-split within the rules is answered
   pub answered : (t : Translator) (s : StartSplit) (l : List ℕ) → start_fits s (length l) ≡ true → (start_split t s l).answer ≡ Chosen (choice_by f t (key_of s))
   -- of the slots alone it is the same: the rule's choice of buffers without their payloads, which the C entries search
   pub of_slots : (t : Translator) (k : Key) → permitted t.count k (take t.count (bare (slots_in t.buffers))) ≡ choice_by f t k
   -- the rule's choice follows from what is carried and the buffers to come: the same carried, the same choice, whatever the buffers before were
-  pub carried-alone : (b : ℕ) (k : Key) (xs ys rest : List Buffer) → length xs ≡ length ys → carried_by f k xs ≡ carried_by f k ys
+  pub carried_alone : (b : ℕ) (k : Key) (xs ys rest : List Buffer) → length xs ≡ length ys → carried_by f k xs ≡ carried_by f k ys
       → permitted b k (xs ++ rest) ≡ permitted b k (ys ++ rest)
   -- once settled nothing changes, so that the pass may end there
   pub settled : (c : Carried) (n : BufferNumber) (s : Slot) (k : Key) → is_settled c ≡ true → f c n s k ≡ c

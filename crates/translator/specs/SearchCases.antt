@@ -165,4 +165,4 @@ carried_past n c (s ∷ ss) = look c (record { 0 = n }) s (key_of own) ∷ carri
 pub record SearchCasesHold : Type 0 where
   pub carried : map (λ (r : Row). carried_past 0 (NoneYet 0) r.slots) table ≡ map (λ (r : Row). r.carried) table
   pub read_off : map (λ (r : Row). choice_of (length r.slots) (carried_by look (key_of own) (bare r.slots))) table ≡ map (λ (r : Row). r.choice) table
-  pub by-rule : map (λ (r : Row). permitted (length r.slots) (key_of own) (bare r.slots)) table ≡ map (λ (r : Row). r.choice) table
+  pub by_rule : map (λ (r : Row). permitted (length r.slots) (key_of own) (bare r.slots)) table ≡ map (λ (r : Row). r.choice) table

@@ -23,7 +23,7 @@ pub record Buffered (P : Slot → Type 0) (t : Translator) (n : BufferNumber) : 
 -- buffer n is the lowest-numbered one of them that is so
 pub record Lowest (P : Slot → Type 0) (t : Translator) (n : BufferNumber) : Type 0 where
   pub one : Buffered P t n
-  pub none-lower : (i : ℕ) → i < n.0 → ¬ (P (at t.buffers i).slot)
+  pub none_lower : (i : ℕ) → i < n.0 → ¬ (P (at t.buffers i).slot)
 
 -- none of them is so
 abbrev pub None : (Slot → Type 0) → Translator → Type 0

@@ -27,34 +27,34 @@ use Rattle.runs.specs.Machine.{after_from}
 use Rattle.why.specs.Why.{numbered, changes_by_port, poll_reason, request_reason, rule_reason, why_of}
 use Rattle.why.specs.Cases.{WhyCases}
 
-pub why-cases : WhyCases
+pub why_cases_lem : WhyCases
 unfolding payload_of same_key numbers_fit start_fits result_length port_at with_port front swept bitmap_of find chosen permitted pass tally ranked earliest stored start_split complete_split launch deliver reset_lane split_named split_from key_named key_from kind_of checked request_of new_fits new_hub configured_as ticked_hub requested polled within has_space not_silent fitting served step after_from numbered changes_by_port poll_reason request_reason rule_reason why_of
-why-cases =
+why_cases_lem =
     record {
       silent = refl;
       short = refl;
       outside = refl;
       misplaced = refl;
       polled = refl;
-      polled-more = refl;
+      polled_more = refl;
       quiet = refl;
       limit = refl;
-      other-lane = refl;
+      other_lane = refl;
       no_room = refl;
-      limit-before-no-room = refl;
-      limit-old = refl;
-      limit-repeat = refl;
+      limit_before_no_room_lem = refl;
+      limit_old = refl;
+      limit_repeat = refl;
       held = refl;
       reused = refl;
-      took-old = refl;
-      took-empty = refl;
+      took_old = refl;
+      took_empty = refl;
       unconfigured = refl;
       value = refl;
       index = refl;
       size = refl;
       code = refl;
       served = refl;
-      no-match = refl;
+      no_match = refl;
       not_yet = refl;
-      none-pending = refl;
+      none_pending = refl;
     }

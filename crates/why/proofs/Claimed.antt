@@ -25,28 +25,28 @@ use Rattle.hub.specs.Valid.{ValidHub}
 use Rattle.hub.specs.Checks.{within, has_space, not_silent, fitting}
 use Rattle.hub.specs.Step.{served, step}
 use Rattle.runs.specs.Refusals.{outside, short, silent}
-use Rattle.runs.proofs.Outside.{outside-tells, short-tells}
+use Rattle.runs.proofs.Outside.{outside_tells, short_tells}
 use Rattle.why.specs.declared.Reason.{Reason}
 use Rattle.why.specs.declared.Reason.TheVariants.{Nothing, Number, HeldBy, Reused, TookFree, LimitReached, NoRoom, Changed, Wrong}
 use Rattle.why.specs.Said.{bitmap_by, SaidOfPoll, SaidOfRequest, NoReason, Said, Passes, TrueOf, number, says, is_number, gets_reason, enough_for}
 use Rattle.why.specs.Why.{numbered, choice_reason, start_reason, changes_by_port, poll_reason, request_reason, rule_reason, why_of}
 use Rattle.why.specs.Claims.{KeysApart, WhyClaims}
-use Rattle.why.proofs.Passing.{number-due, due-answered, due-number, unnumbered-passes, passes-unnumbered, ByRule, by-rule}
-use Rattle.why.proofs.Starts.{picked, picked-true, picked-only, picked-enough, start-chosen}
-use Rattle.why.proofs.Stored.{why-stored}
-use Rattle.why.proofs.Requests.{request-true, request-only, wrong-enough, right-served}
-use Rattle.why.proofs.Polls.{poll-true, poll-only, poll-enough, poll-nothing}
+use Rattle.why.proofs.Passing.{number_due, due_answered, due_number, unnumbered_passes, passes_unnumbered, ByRule, by_rule}
+use Rattle.why.proofs.Starts.{picked, picked_true, picked_only, picked_enough, start_chosen}
+use Rattle.why.proofs.Stored.{why_stored}
+use Rattle.why.proofs.Requests.{request_true, request_only, wrong_enough, right_served}
+use Rattle.why.proofs.Polls.{poll_true, poll_only, poll_enough, poll_nothing}
 
-no-reason : (r : Reason) → NoReason r → r ≡ Nothing
-no-reason Nothing s = refl
-no-reason (Number n) s = absurd s
-no-reason (HeldBy b) s = absurd s
-no-reason (Reused b) s = absurd s
-no-reason (TookFree b) s = absurd s
-no-reason NoRoom s = absurd s
-no-reason LimitReached s = absurd s
-no-reason (Changed f) s = absurd s
-no-reason (Wrong w) s = absurd s
+no_reason_lem : (r : Reason) → NoReason r → r ≡ Nothing
+no_reason_lem Nothing s = refl
+no_reason_lem (Number n) s = absurd s
+no_reason_lem (HeldBy b) s = absurd s
+no_reason_lem (Reused b) s = absurd s
+no_reason_lem (TookFree b) s = absurd s
+no_reason_lem NoRoom s = absurd s
+no_reason_lem LimitReached s = absurd s
+no_reason_lem (Changed f) s = absurd s
+no_reason_lem (Wrong w) s = absurd s
 
 -- ---- enough, on any hub
 
@@ -55,92 +55,92 @@ is_true true n = refl
 is_true false n = absurd (n refl)
 
 inside : (h : Hub) (c : Call) → Passes h c → within h c ≡ true
-inside h c p = is_true (within h c) (λ e. p outside (omega arith) ((outside-tells h c).0 e))
+inside h c p = is_true (within h c) (λ e. p outside (omega arith) ((outside_tells h c).0 e))
 
 wide : (h : Hub) (c : Call) → Passes h c → has_space c ≡ true
-wide h c p = is_true (has_space c) (λ e. p short (omega arith) ((short-tells c).0 e))
+wide h c p = is_true (has_space c) (λ e. p short (omega arith) ((short_tells c).0 e))
 
-none-for : (r : Reason) (a : Answer) → NoReason r → enough_for r ≡ some a → ⊥
-none-for r a s e = let q : none ≡ some a = ap enough_for (sym (no-reason r s)) ∙ e in let z : ◌≡◌ {A = ℕ} 0 1 = cc in omega arith
+none_for : (r : Reason) (a : Answer) → NoReason r → enough_for r ≡ some a → ⊥
+none_for r a s e = let q : none ≡ some a = ap enough_for (sym (no_reason_lem r s)) ∙ e in let z : ◌≡◌ {A = ℕ} 0 1 = cc in omega arith
 
 passed : (h : Hub) (c : Call) → within h c ≡ true → has_space c ≡ true → not_silent h c ≡ true → fitting h c ≡ true → step h c ≡ served h c
 unfolding step
 passed h c w r s f = rw (w, r, s, f)
 
 module _ (h : Hub) (a : Answer) where
-  request-enough : (y : Lane) (s : List ℕ) (r : Reason) → SaidOfRequest r h s → enough_for r ≡ some a → (requested h y (request_of h.identity.ports s)).answer ≡ a
-  request-enough y s (Wrong x) w e = let q : plain_answer 2 ≡ a = cc in ap (λ (o : Outcome). o.answer) (wrong-enough h s y x w) ∙ q
-  request-enough y s Nothing w e = absurd (none-for Nothing a tt e)
-  request-enough y s (Number n) w e = absurd w
-  request-enough y s (HeldBy n) w e = absurd w
-  request-enough y s (Reused n) w e = absurd w
-  request-enough y s (TookFree n) w e = absurd w
-  request-enough y s NoRoom w e = absurd w
-  request-enough y s LimitReached w e = absurd w
-  request-enough y s (Changed f) w e = absurd w
+  request_enough : (y : Lane) (s : List ℕ) (r : Reason) → SaidOfRequest r h s → enough_for r ≡ some a → (requested h y (request_of h.identity.ports s)).answer ≡ a
+  request_enough y s (Wrong x) w e = let q : plain_answer 2 ≡ a = cc in ap (λ (o : Outcome). o.answer) (wrong_enough h s y x w) ∙ q
+  request_enough y s Nothing w e = absurd (none_for Nothing a tt e)
+  request_enough y s (Number n) w e = absurd w
+  request_enough y s (HeldBy n) w e = absurd w
+  request_enough y s (Reused n) w e = absurd w
+  request_enough y s (TookFree n) w e = absurd w
+  request_enough y s NoRoom w e = absurd w
+  request_enough y s LimitReached w e = absurd w
+  request_enough y s (Changed f) w e = absurd w
 
-  changes-enough : (r : Reason) → SaidOfPoll r h → enough_for r ≡ some a → (polled h).answer ≡ a
-  changes-enough (Changed f) w e = let q : pid_answer 1 0 (bitmap_by f ∷ []) ≡ a = cc in ap (λ (o : Outcome). o.answer) (poll-enough h f w) ∙ q
-  changes-enough Nothing w e = absurd (none-for Nothing a tt e)
-  changes-enough (Number n) w e = absurd w
-  changes-enough (HeldBy n) w e = absurd w
-  changes-enough (Reused n) w e = absurd w
-  changes-enough (TookFree n) w e = absurd w
-  changes-enough NoRoom w e = absurd w
-  changes-enough LimitReached w e = absurd w
-  changes-enough (Wrong x) w e = absurd w
+  changes_enough : (r : Reason) → SaidOfPoll r h → enough_for r ≡ some a → (polled h).answer ≡ a
+  changes_enough (Changed f) w e = let q : pid_answer 1 0 (bitmap_by f ∷ []) ≡ a = cc in ap (λ (o : Outcome). o.answer) (poll_enough h f w) ∙ q
+  changes_enough Nothing w e = absurd (none_for Nothing a tt e)
+  changes_enough (Number n) w e = absurd w
+  changes_enough (HeldBy n) w e = absurd w
+  changes_enough (Reused n) w e = absurd w
+  changes_enough (TookFree n) w e = absurd w
+  changes_enough NoRoom w e = absurd w
+  changes_enough LimitReached w e = absurd w
+  changes_enough (Wrong x) w e = absurd w
 
   enough : (r : Reason) (c : Call) → KeysApart h → enough_for r ≡ some a → Passes h c → Said r h c → (step h c).answer ≡ a
   unfolding has_space not_silent fitting served
   enough r (Control v s room) apart e p w =
       let x = inside h (Control v s room) p in
       let y = wide h (Control v s room) p in
-      ap (λ (o : Outcome). o.answer) (passed h (Control v s room) x y refl refl) ∙ request-enough (lane_from v) s r w e
+      ap (λ (o : Outcome). o.answer) (passed h (Control v s room) x y refl refl) ∙ request_enough (lane_from v) s r w e
   enough r (Poll v room) apart e p w =
       let x = inside h (Poll v room) p in
       let y = wide h (Poll v room) p in
       let z = is_true h.configured (p silent (omega arith)) in
-      ap (λ (o : Outcome). o.answer) (passed h (Poll v room) x y z refl) ∙ changes-enough r w e
+      ap (λ (o : Outcome). o.answer) (passed h (Poll v room) x y z refl) ∙ changes_enough r w e
   enough r (Start v q t f g b n l) apart e p w =
       let x = inside h (Start v q t f g b n l) p in
       let z = is_true h.configured (p silent (omega arith)) in
       let k = key_of (split_from v q t f g b n) in
       ap (λ (o : Outcome). o.answer) (passed h (Start v q t f g b n l) x refl z refl)
-      ∙ ap (λ (s : StartAnswer). plain_answer (start_number s)) (start-chosen h v q t f g b n l x)
-      ∙ picked-enough h k (apart k) r a w e
-  enough r (Complete v x y d room) apart e p w = absurd (none-for r a w e)
-  enough r (Launch room) apart e p w = absurd (none-for r a w e)
-  enough r (Deliver x l) apart e p w = absurd (none-for r a w e)
-  enough r (Event x n) apart e p w = absurd (none-for r a w e)
-  enough r Tick apart e p w = absurd (none-for r a w e)
-  enough r BusReset apart e p w = absurd (none-for r a w e)
+      ∙ ap (λ (s : StartAnswer). plain_answer (start_number s)) (start_chosen h v q t f g b n l x)
+      ∙ picked_enough h k (apart k) r a w e
+  enough r (Complete v x y d room) apart e p w = absurd (none_for r a w e)
+  enough r (Launch room) apart e p w = absurd (none_for r a w e)
+  enough r (Deliver x l) apart e p w = absurd (none_for r a w e)
+  enough r (Event x n) apart e p w = absurd (none_for r a w e)
+  enough r Tick apart e p w = absurd (none_for r a w e)
+  enough r BusReset apart e p w = absurd (none_for r a w e)
 
 -- ---- where none of 5 to 8 is answered
 
 module _ (h : Hub) (valid : ValidHub h) where
-  rule-true : (c : Call) → ByRule h c → Said (rule_reason h c) h c
+  rule_true : (c : Call) → ByRule h c → Said (rule_reason h c) h c
   unfolding rule_reason served
-  rule-true (Control z s room) b = request-true h s
-  rule-true (Poll z room) b = rw b.rule (poll-true h valid)
-  rule-true (Start z p t f g a e l) b = rw (start-chosen h z p t f g a e l b.fits) (picked-true h (key_of (split_from z p t f g a e)) (valid.translator.keys (key_of (split_from z p t f g a e))))
-  rule-true (Complete z a e d room) b = tt
-  rule-true (Launch room) b = tt
-  rule-true (Deliver r l) b = tt
-  rule-true (Event e n) b = tt
-  rule-true Tick b = tt
-  rule-true BusReset b = tt
+  rule_true (Control z s room) b = request_true h s
+  rule_true (Poll z room) b = rw b.rule (poll_true h valid)
+  rule_true (Start z p t f g a e l) b = rw (start_chosen h z p t f g a e l b.fits) (picked_true h (key_of (split_from z p t f g a e)) (valid.translator.keys (key_of (split_from z p t f g a e))))
+  rule_true (Complete z a e d room) b = tt
+  rule_true (Launch room) b = tt
+  rule_true (Deliver r l) b = tt
+  rule_true (Event e n) b = tt
+  rule_true Tick b = tt
+  rule_true BusReset b = tt
 
-  rule-only : (r : Reason) (c : Call) → ByRule h c → Said r h c → r ≡ rule_reason h c
+  rule_only : (r : Reason) (c : Call) → ByRule h c → Said r h c → r ≡ rule_reason h c
   unfolding rule_reason served
-  rule-only r (Control z s room) b w = request-only h s r w
-  rule-only r (Poll z room) b w = rw b.rule (poll-only h valid r w)
-  rule-only r (Start z p t f g a e l) b w = rw (start-chosen h z p t f g a e l b.fits) (picked-only h (key_of (split_from z p t f g a e)) (valid.translator.keys (key_of (split_from z p t f g a e))) r w)
-  rule-only r (Complete z a e d room) b w = no-reason r w
-  rule-only r (Launch room) b w = no-reason r w
-  rule-only r (Deliver x l) b w = no-reason r w
-  rule-only r (Event e n) b w = no-reason r w
-  rule-only r Tick b w = no-reason r w
-  rule-only r BusReset b w = no-reason r w
+  rule_only r (Control z s room) b w = request_only h s r w
+  rule_only r (Poll z room) b w = rw b.rule (poll_only h valid r w)
+  rule_only r (Start z p t f g a e l) b w = rw (start_chosen h z p t f g a e l b.fits) (picked_only h (key_of (split_from z p t f g a e)) (valid.translator.keys (key_of (split_from z p t f g a e))) r w)
+  rule_only r (Complete z a e d room) b w = no_reason_lem r w
+  rule_only r (Launch room) b w = no_reason_lem r w
+  rule_only r (Deliver x l) b w = no_reason_lem r w
+  rule_only r (Event e n) b w = no_reason_lem r w
+  rule_only r Tick b w = no_reason_lem r w
+  rule_only r BusReset b w = no_reason_lem r w
 
   -- ---- true, and the only one
 
@@ -152,77 +152,77 @@ module _ (h : Hub) (valid : ValidHub h) where
       n = (step h c).answer.number
 
       go : (x : Bool) → is_number n ≡ x → TrueOf (cond x (Number n) (rule_reason h c)) h c
-      go true e = let d = number-due h c valid e in number d.refusal d.early d.due (ap Number d.number)
-      go false e = says (unnumbered-passes h c valid e) (rule-true c (by-rule h c e))
+      go true e = let d = number_due h c valid e in number d.refusal d.early d.due (ap Number d.number)
+      go false e = says (unnumbered_passes h c valid e) (rule_true c (by_rule h c e))
 
-  is-why : (r : Reason) (c : Call) → TrueOf r h c → r ≡ why_of h c
+  is_why : (r : Reason) (c : Call) → TrueOf r h c → r ≡ why_of h c
   unfolding why_of numbered
-  is-why r c (number q l d e) = e ∙ rw (due-number h c valid q l d, due-answered h c valid q d)
-  is-why r c (says p s) = let e = passes-unnumbered h c valid p in rw e (rule-only r c (by-rule h c e) s)
+  is_why r c (number q l d e) = e ∙ rw (due_number h c valid q l d, due_answered h c valid q d)
+  is_why r c (says p s) = let e = passes_unnumbered h c valid p in rw e (rule_only r c (by_rule h c e) s)
 
   -- ---- given exactly where the answer gets one
 
-  request-given : (y : Lane) (s : List ℕ) (r : Reason) → SaidOfRequest r h s → (r ≡ Nothing) ↔ (eqb (requested h y (request_of h.identity.ports s)).answer.number 2 ≡ false)
-  request-given y s (Wrong x) w = (
+  request_given : (y : Lane) (s : List ℕ) (r : Reason) → SaidOfRequest r h s → (r ≡ Nothing) ↔ (eqb (requested h y (request_of h.identity.ports s)).answer.number 2 ≡ false)
+  request_given y s (Wrong x) w = (
     λ e. let z : ◌≡◌ {A = ℕ} 0 1 = cc in absurd (omega arith),
-    λ e. absurd (eqb-false (requested h y (request_of h.identity.ports s)).answer.number 2 e (ap (λ (o : Outcome). o.answer.number) (wrong-enough h s y x w))),
+    λ e. absurd (eqb-false (requested h y (request_of h.identity.ports s)).answer.number 2 e (ap (λ (o : Outcome). o.answer.number) (wrong_enough h s y x w))),
   )
-  request-given y s Nothing w = (λ e. ne_eqb (requested h y (request_of h.identity.ports s)).answer.number 2 (right-served h s y w), λ e. refl)
-  request-given y s (Number n) w = absurd w
-  request-given y s (HeldBy b) w = absurd w
-  request-given y s (Reused b) w = absurd w
-  request-given y s (TookFree b) w = absurd w
-  request-given y s NoRoom w = absurd w
-  request-given y s LimitReached w = absurd w
-  request-given y s (Changed f) w = absurd w
+  request_given y s Nothing w = (λ e. ne_eqb (requested h y (request_of h.identity.ports s)).answer.number 2 (right_served h s y w), λ e. refl)
+  request_given y s (Number n) w = absurd w
+  request_given y s (HeldBy b) w = absurd w
+  request_given y s (Reused b) w = absurd w
+  request_given y s (TookFree b) w = absurd w
+  request_given y s NoRoom w = absurd w
+  request_given y s LimitReached w = absurd w
+  request_given y s (Changed f) w = absurd w
 
-  poll-given : (r : Reason) → SaidOfPoll r h → (r ≡ Nothing) ↔ (eqb (polled h).answer.number 1 ≡ false)
-  poll-given (Changed f) w = (
+  poll_given : (r : Reason) → SaidOfPoll r h → (r ≡ Nothing) ↔ (eqb (polled h).answer.number 1 ≡ false)
+  poll_given (Changed f) w = (
     λ e. let z : ◌≡◌ {A = ℕ} 0 1 = cc in absurd (omega arith),
-    λ e. absurd (eqb-false (polled h).answer.number 1 e (ap (λ (o : Outcome). o.answer.number) (poll-enough h f w))),
+    λ e. absurd (eqb-false (polled h).answer.number 1 e (ap (λ (o : Outcome). o.answer.number) (poll_enough h f w))),
   )
-  poll-given Nothing w = (λ e. ne_eqb (polled h).answer.number 1 (poll-nothing h valid w), λ e. refl)
-  poll-given (Number n) w = absurd w
-  poll-given (HeldBy b) w = absurd w
-  poll-given (Reused b) w = absurd w
-  poll-given (TookFree b) w = absurd w
-  poll-given NoRoom w = absurd w
-  poll-given LimitReached w = absurd w
-  poll-given (Wrong x) w = absurd w
+  poll_given Nothing w = (λ e. ne_eqb (polled h).answer.number 1 (poll_nothing h valid w), λ e. refl)
+  poll_given (Number n) w = absurd w
+  poll_given (HeldBy b) w = absurd w
+  poll_given (Reused b) w = absurd w
+  poll_given (TookFree b) w = absurd w
+  poll_given NoRoom w = absurd w
+  poll_given LimitReached w = absurd w
+  poll_given (Wrong x) w = absurd w
 
-  start-given : (c : Choice) → choice_reason c ≡ Nothing → ⊥
-  start-given choice.NoRoom e = let z : ◌≡◌ {A = ℕ} 0 1 = cc in omega arith
-  start-given choice.LimitReached e = let z : ◌≡◌ {A = ℕ} 0 1 = cc in omega arith
-  start-given (choice.Held n) e = let z : ◌≡◌ {A = ℕ} 0 1 = cc in omega arith
-  start-given (choice.Reused n) e = let z : ◌≡◌ {A = ℕ} 0 1 = cc in omega arith
-  start-given (choice.Took n) e = let z : ◌≡◌ {A = ℕ} 0 1 = cc in omega arith
+  start_given : (c : Choice) → choice_reason c ≡ Nothing → ⊥
+  start_given choice.NoRoom e = let z : ◌≡◌ {A = ℕ} 0 1 = cc in omega arith
+  start_given choice.LimitReached e = let z : ◌≡◌ {A = ℕ} 0 1 = cc in omega arith
+  start_given (choice.Held n) e = let z : ◌≡◌ {A = ℕ} 0 1 = cc in omega arith
+  start_given (choice.Reused n) e = let z : ◌≡◌ {A = ℕ} 0 1 = cc in omega arith
+  start_given (choice.Took n) e = let z : ◌≡◌ {A = ℕ} 0 1 = cc in omega arith
 
-  rule-given : (c : Call) → ByRule h c → is_number (served h c).answer.number ≡ false
+  rule_given : (c : Call) → ByRule h c → is_number (served h c).answer.number ≡ false
       → (rule_reason h c ≡ Nothing) ↔ (gets_reason c (served h c).answer.number ≡ false)
   unfolding rule_reason served
-  rule-given (Control z s room) b u = rw u (request-given (lane_from z) s (request_reason h s) (request-true h s))
-  rule-given (Poll z room) b u = rw (b.rule, u) (poll-given (poll_reason (polled h).answer.number (changes_by_port h.ports)) (poll-true h valid))
-  rule-given (Start z p t f g a e l) b u = (
-    λ x. absurd (start-given (picked h (key_of (split_from z p t f g a e))) (ap start_reason (sym (start-chosen h z p t f g a e l b.fits)) ∙ x)),
+  rule_given (Control z s room) b u = rw u (request_given (lane_from z) s (request_reason h s) (request_true h s))
+  rule_given (Poll z room) b u = rw (b.rule, u) (poll_given (poll_reason (polled h).answer.number (changes_by_port h.ports)) (poll_true h valid))
+  rule_given (Start z p t f g a e l) b u = (
+    λ x. absurd (start_given (picked h (key_of (split_from z p t f g a e))) (ap start_reason (sym (start_chosen h z p t f g a e l b.fits)) ∙ x)),
     λ x. absurd (true≢false x),
   )
-  rule-given (Complete z a e d room) b u = (λ z. u, λ z. refl)
-  rule-given (Launch room) b u = (λ z. u, λ z. refl)
-  rule-given (Deliver r l) b u = (λ z. u, λ z. refl)
-  rule-given (Event e n) b u = (λ z. u, λ z. refl)
-  rule-given Tick b u = (λ z. u, λ z. refl)
-  rule-given BusReset b u = (λ z. u, λ z. refl)
+  rule_given (Complete z a e d room) b u = (λ z. u, λ z. refl)
+  rule_given (Launch room) b u = (λ z. u, λ z. refl)
+  rule_given (Deliver r l) b u = (λ z. u, λ z. refl)
+  rule_given (Event e n) b u = (λ z. u, λ z. refl)
+  rule_given Tick b u = (λ z. u, λ z. refl)
+  rule_given BusReset b u = (λ z. u, λ z. refl)
 
-  numbered-gets : (c : Call) (n : ℕ) → is_number n ≡ true → gets_reason c n ≡ true
-  numbered-gets (Control z s room) n e = rw e
-  numbered-gets (Poll z room) n e = rw e
-  numbered-gets (Start z p t f g a x l) n e = refl
-  numbered-gets (Complete z a x d room) n e = e
-  numbered-gets (Launch room) n e = e
-  numbered-gets (Deliver r l) n e = e
-  numbered-gets (Event x m) n e = e
-  numbered-gets Tick n e = e
-  numbered-gets BusReset n e = e
+  numbered_gets : (c : Call) (n : ℕ) → is_number n ≡ true → gets_reason c n ≡ true
+  numbered_gets (Control z s room) n e = rw e
+  numbered_gets (Poll z room) n e = rw e
+  numbered_gets (Start z p t f g a x l) n e = refl
+  numbered_gets (Complete z a x d room) n e = e
+  numbered_gets (Launch room) n e = e
+  numbered_gets (Deliver r l) n e = e
+  numbered_gets (Event x m) n e = e
+  numbered_gets Tick n e = e
+  numbered_gets BusReset n e = e
 
   given : (c : Call) → (why_of h c ≡ Nothing) ↔ (gets_reason c (step h c).answer.number ≡ false)
   unfolding why_of numbered
@@ -232,18 +232,18 @@ module _ (h : Hub) (valid : ValidHub h) where
       n = (step h c).answer.number
 
       go : (x : Bool) → is_number n ≡ x → (cond x (Number n) (rule_reason h c) ≡ Nothing) ↔ (gets_reason c n ≡ false)
-      go true e = (λ z. let y : ◌≡◌ {A = ℕ} 0 1 = cc in absurd (omega arith), λ z. absurd (true≢false (sym (numbered-gets c n e) ∙ z)))
+      go true e = (λ z. let y : ◌≡◌ {A = ℕ} 0 1 = cc in absurd (omega arith), λ z. absurd (true≢false (sym (numbered_gets c n e) ∙ z)))
       go false e =
-          let b = by-rule h c e in
+          let b = by_rule h c e in
           let m : (step h c).answer.number ≡ (served h c).answer.number = ap (λ (o : Outcome). o.answer.number) b.rule in
-          subst (λ (k : ℕ). (rule_reason h c ≡ Nothing) ↔ (gets_reason c k ≡ false)) (sym m) (rule-given c b (ap is_number (sym m) ∙ e))
+          subst (λ (k : ℕ). (rule_reason h c ≡ Nothing) ↔ (gets_reason c k ≡ false)) (sym m) (rule_given c b (ap is_number (sym m) ∙ e))
 
-pub why-claims : WhyClaims step why_of
-why-claims =
+pub why_claims_lem : WhyClaims step why_of
+why_claims_lem =
     record {
       true_of = λ h c v. true_of h v c;
-      only = λ r s h c v x y. is-why h v r c x ∙ sym (is-why h v s c y);
+      only = λ r s h c v x y. is_why h v r c x ∙ sym (is_why h v s c y);
       enough = λ r a h c. enough h a r c;
       given = λ h c v. given h v c;
-      stored = why-stored;
+      stored = why_stored;
     }

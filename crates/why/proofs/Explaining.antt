@@ -27,43 +27,43 @@ use Rattle.why.specs.Said.{served_unconfigured, kind_in}
 use Rattle.why.specs.Why.{numbered, start_reason, changes_by_port, poll_reason, own_fault, request_reason, rule_reason, why_of}
 
 module _ (h : Hub) {r x : Reason} {o : Outcome} where
-  pub poll-way : (z room : ℕ) {f : PortChanges} → o ≡ step h (Poll z room) → r ≡ numbered o.answer.number x → x ≡ poll_reason o.answer.number f → f ≡ changes_by_port h.ports
+  pub poll_way : (z room : ℕ) {f : PortChanges} → o ≡ step h (Poll z room) → r ≡ numbered o.answer.number x → x ≡ poll_reason o.answer.number f → f ≡ changes_by_port h.ports
       → r ≡ why_of h (Poll z room)
   unfolding rule_reason why_of
-  poll-way z room s e p f = e ∙ rw (p, f, s)
+  poll_way z room s e p f = e ∙ rw (p, f, s)
 
-  pub start-way : (z p t f g a e : ℕ) (l : List ℕ) {q : StartSplit} {w : Started} → o ≡ step h (Start z p t f g a e l) → q ≡ split_from z p t f g a e
+  pub start_way : (z p t f g a e : ℕ) (l : List ℕ) {q : StartSplit} {w : Started} → o ≡ step h (Start z p t f g a e l) → q ≡ split_from z p t f g a e
       → w ≡ start_split h.translator q l → r ≡ numbered o.answer.number x → x ≡ start_reason w.answer → r ≡ why_of h (Start z p t f g a e l)
   unfolding rule_reason why_of
-  start-way z p t f g a e l s q w n x = n ∙ rw (x, w, q, s)
+  start_way z p t f g a e l s q w n x = n ∙ rw (x, w, q, s)
 
   -- the bytes are taken one by one: the fields are read from them by their places
-  pub control-way : (z : ℕ) (s : List ℕ) (room : ℕ) → o ≡ step h (Control z s room) → r ≡ numbered o.answer.number x
+  pub control_way : (z : ℕ) (s : List ℕ) (room : ℕ) → o ≡ step h (Control z s room) → r ≡ numbered o.answer.number x
       → x ≡ request_reason h (get_or s 0 0 ∷ get_or s 1 0 ∷ get_or s 2 0 ∷ get_or s 3 0 ∷ get_or s 4 0 ∷ get_or s 5 0 ∷ get_or s 6 0 ∷ get_or s 7 0 ∷ [])
       → r ≡ why_of h (Control z s room)
   unfolding request_of request_reason rule_reason why_of
-  control-way z s room c e q = e ∙ rw (q, c)
+  control_way z s room c e q = e ∙ rw (q, c)
 
 -- Setup bytes are exactly 8, else 6.
-pub control-short : (h : Hub) (z : ℕ) (s : List ℕ) (room : ℕ) → ¬ (length s ≡ 8) → Number 6 ≡ why_of h (Control z s room)
+pub control_short : (h : Hub) (z : ℕ) (s : List ℕ) (room : ℕ) → ¬ (length s ≡ 8) → Number 6 ≡ why_of h (Control z s room)
 unfolding step within numbered why_of
-control-short h z s room n = rw (ne_eqb (length s) 8 n)
+control_short h z s room n = rw (ne_eqb (length s) 8 n)
 
 -- ---- a request's reason
 
 module _ (h : Hub) (b : List ℕ) {s : Setup} {k : Kind} {x : Bool} (es : s ≡ setup_of b) (ek : k ≡ kind_of s.requesttype s.code) (ex : x ≡ is_known k) where
-  kind-is : k ≡ kind_in b
-  kind-is = ek ∙ ap (λ (y : Setup). kind_of y.requesttype y.code) es
+  kind_is : k ≡ kind_in b
+  kind_is = ek ∙ ap (λ (y : Setup). kind_of y.requesttype y.code) es
 
-  pub unknown-way : x ≡ false → Wrong wrong.TypeOrCode ≡ request_reason h b
+  pub unknown_way : x ≡ false → Wrong wrong.TypeOrCode ≡ request_reason h b
   unfolding request_reason
-  unknown-way e = rw (← kind-is, ← ex, e)
+  unknown_way e = rw (← kind_is, ← ex, e)
 
   module _ (known : x ≡ true) {v y : Bool} (ev : v ≡ served_unconfigured k) (ey : y ≡ h.configured || v) where
-    pub unserved-way : y ≡ false → Wrong wrong.Unconfigured ≡ request_reason h b
+    pub unserved_way : y ≡ false → Wrong wrong.Unconfigured ≡ request_reason h b
     unfolding request_reason
-    unserved-way e = rw (← kind-is, ← ex, known, ← ev, ← ey, e)
+    unserved_way e = rw (← kind_is, ← ex, known, ← ev, ← ey, e)
 
-    pub read-way : y ≡ true → {q : Request} {r : Reason} → q ≡ request_of h.identity.ports b → r ≡ own_fault q → r ≡ request_reason h b
+    pub read_way : y ≡ true → {q : Request} {r : Reason} → q ≡ request_of h.identity.ports b → r ≡ own_fault q → r ≡ request_reason h b
     unfolding request_reason
-    read-way e eq er = rw (← kind-is, ← ex, known, ← ev, ← ey, e) (er ∙ ap own_fault eq)
+    read_way e eq er = rw (← kind_is, ← ex, known, ← ev, ← ey, e) (er ∙ ap own_fault eq)

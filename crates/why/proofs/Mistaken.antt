@@ -53,7 +53,7 @@ use Rattle.why.specs.Claims.{WhyTrue, WhyEnough, payload_at}
 use Rattle.why.specs.Cases.{buffer, connected, at_ports2_and4, old_above}
 use Rattle.why.specs.ExplainedRuns.{make, explain, seen_from, SameItems, SameSeen, makes_of, made_of}
 use Rattle.why.specs.Mistakes.{no_reason, number_always, other_buffer, is_old, old_occupied, limit_unnamed, port5_too, past_last_port, value_first, index_first, WhyMistakesShutOut}
-use Rattle.why.proofs.Claimed.{why-claims}
+use Rattle.why.proofs.Claimed.{why_claims_lem}
 
 -- the bench hub after these calls
 hub-after : List Call → Hub
@@ -65,27 +65,27 @@ unfolding hub-after
 the_same why t cs c =
     let h = after_from rules (new_hub_of bench) cs in
     let v = reached bench cs in
-    why-claims.only (why h c) (why_of h c) h c v (t h c v) (why-claims.true_of h c v)
+    why_claims_lem.only (why h c) (why_of h c) h c v (t h c v) (why_claims_lem.true_of h c v)
 
 -- what the limit says, where it is the reason
-limit-says : (h : Hub) (c : Call) → TrueOf LimitReached h c → Passes h c × Said LimitReached h c
-limit-says h c (number q l d e) = let z : ◌≡◌ {A = ℕ} 0 1 = cc in absurd (omega arith)
-limit-says h c (says p s) = (p, s)
+limit_says : (h : Hub) (c : Call) → TrueOf LimitReached h c → Passes h c × Said LimitReached h c
+limit_says h c (number q l d e) = let z : ◌≡◌ {A = ℕ} 0 1 = cc in absurd (omega arith)
+limit_says h c (says p s) = (p, s)
 
 -- at the limit, with an own old buffer
-own-old-passes : ¬ (WhyEnough (step_by (starting_by own_old_passes)))
+own_old_passes_lem : ¬ (WhyEnough (step_by (starting_by own_old_passes)))
 unfolding bench seen_from SameItems SameSeen made_of makes_of run_from payload_of same_key numbers_fit start_fits result_length port_at with_port front swept bitmap_of find chosen permitted pass tally ranked earliest stored start_split complete_split launch deliver reset_lane split_named split_from key_named key_from kind_of checked request_of new_fits new_hub configured_as ticked_hub requested polled within has_space not_silent fitting served step after_from numbered changes_by_port poll_reason request_reason rule_reason why_of
-own-old-passes claim =
+own_old_passes_lem claim =
     let h = after_from rules (new_hub_of bench) old_above in
     let v = reached bench old_above in
-    let w = limit-says h (start_in 5 1) (why-claims.true_of h (start_in 5 1) v) in
+    let w = limit_says h (start_in 5 1) (why_claims_lem.true_of h (start_in 5 1) v) in
     let z : plain_answer 0 ≡ plain_answer 3 = claim LimitReached (plain_answer 3) h (start_in 5 1) v.translator.keys refl w.0 w.1 in
     let n : ◌≡◌ {A = ℕ} 0 3 = ap (λ (a : Answer). a.number) z in
     omega (arith, n)
 
 -- devices 5 and 6 are old, in buffers 0 and 1; what device 6 was delivered is one byte
-two-old : List Call
-two-old =
+two_old : List Call
+two_old =
     set_configuration1 ∷ start_in 5 1 ∷ start_in 6 1 ∷ Launch 64 ∷ deliver_data0 [] ∷ Launch 64 ∷ deliver_data0 (9 ∷ []) ∷ complete_in 5 1
     ∷ complete_in 6 1 ∷ []
 
@@ -94,53 +94,53 @@ first-number : List Event → ℕ
 first-number [] = 0
 first-number (e ∷ es) = e.answer.number
 
-pub why-mistakes-shut-out : WhyMistakesShutOut
-unfolding hub-after two-old first-number bench seen_from SameItems SameSeen made_of makes_of run_from payload_of same_key numbers_fit start_fits result_length port_at with_port front swept bitmap_of find chosen permitted pass tally ranked earliest stored start_split complete_split launch deliver reset_lane split_named split_from key_named key_from kind_of checked request_of new_fits new_hub configured_as ticked_hub requested polled within has_space not_silent fitting served step after_from numbered changes_by_port poll_reason request_reason rule_reason why_of
-why-mistakes-shut-out =
+pub why_mistakes_shut_out_lem : WhyMistakesShutOut
+unfolding hub-after two_old first-number bench seen_from SameItems SameSeen made_of makes_of run_from payload_of same_key numbers_fit start_fits result_length port_at with_port front swept bitmap_of find chosen permitted pass tally ranked earliest stored start_split complete_split launch deliver reset_lane split_named split_from key_named key_from kind_of checked request_of new_fits new_hub configured_as ticked_hub requested polled within has_space not_silent fitting served step after_from numbered changes_by_port poll_reason request_reason rule_reason why_of
+why_mistakes_shut_out_lem =
     record {
-      no-reason = λ t. let e : Nothing ≡ Number 5 = the_same no_reason t [] (Poll 0 64) in let z : ◌≡◌ {A = ℕ} 0 1 = cc in omega arith;
-      number-always = λ t. let e : Number 0 ≡ Nothing = the_same number_always t [] set_configuration1 in let z : ◌≡◌ {A = ℕ} 0 1 = cc in omega arith;
-      other-buffer = λ t.
+      no_reason_lem = λ t. let e : Nothing ≡ Number 5 = the_same no_reason t [] (Poll 0 64) in let z : ◌≡◌ {A = ℕ} 0 1 = cc in omega arith;
+      number_always_lem = λ t. let e : Number 0 ≡ Nothing = the_same number_always t [] set_configuration1 in let z : ◌≡◌ {A = ℕ} 0 1 = cc in omega arith;
+      other_buffer_lem = λ t.
           let e : TookFree (buffer 1) ≡ TookFree (buffer 0) = the_same other_buffer t (set_configuration1 ∷ []) (start_in 5 1) in
           let z : ◌≡◌ {A = ℕ} 1 0 = ap (λ (r : Reason). (bytes_of r).value) e in
           omega (arith, z);
-      old-occupied = λ t.
+      old_occupied_lem = λ t.
           let e : NoRoom ≡ TookFree (buffer 0) = the_same old_occupied t p12.calls (start_in 7 1) in
           let z : ◌≡◌ {A = ℕ} 0 1 = cc in
           omega arith;
-      limit-unnamed = λ t.
+      limit_unnamed_lem = λ t.
           let e : NoRoom ≡ LimitReached = the_same limit_unnamed t p11.calls (start_in 7 1) in
           let z : ◌≡◌ {A = ℕ} 0 1 = cc in
           omega arith;
-      past-last-port = λ t.
+      past_last_port_lem = λ t.
           let e : Changed (port5_too (at_ports2_and4 connected no_changes)) ≡ Changed (at_ports2_and4 connected no_changes) =
           the_same past_last_port t p4.calls (Poll 0 64) in
           let z : ◌≡◌ {A = ℕ} 1 0 = ap (λ (r : Reason). get_or (bytes_of r).changes 4 0) e in
           omega (arith, z);
-      value-first = λ t.
+      value_first_lem = λ t.
           let e : Wrong wrong.Value ≡ Wrong wrong.Unconfigured = the_same value_first t [] (set_port_feature 3 5) in
           let z : ◌≡◌ {A = ℕ} 0 1 = cc in
           omega arith;
-      index-first = λ t.
+      index_first_lem = λ t.
           let e : Wrong wrong.Index ≡ Wrong wrong.Value = the_same index_first t (set_configuration1 ∷ []) (set_port_feature 3 5) in
           let z : ◌≡◌ {A = ℕ} 0 1 = cc in
           omega arith;
-      own-old-passes = own-old-passes;
-      none-given = λ t. true≢false ((t (hub-after []) (Poll 0 64) (reached bench [])).0 refl);
-      highest-free = λ t.
+      own_old_passes_lem = own_old_passes_lem;
+      none_given = λ t. true≢false ((t (hub-after []) (Poll 0 64) (reached bench [])).0 refl);
+      highest_free_lem = λ t.
           let cs = set_configuration1 ∷ [] in
           false≢true (ap is_pending (t (hub-after cs) 0 9 2 0 0 5 1 [] (reached bench cs)).pending);
-      without-payload = λ t.
+      without_payload_lem = λ t.
           let cs = set_configuration1 ∷ [] in
           let z : ◌≡◌ {A = ℕ} 0 1 = ap length (t (hub-after cs) 0 1 2 0 0 5 1 (9 ∷ []) (reached bench cs)).payload in
           omega (arith, z);
-      old-emptied = λ t.
-          false≢true (ap is_old ((t (hub-after two-old) 0 9 2 0 0 7 1 [] (reached bench two-old)).other-slots 1 (λ e. omega (arith, e))));
-      old-cleared = λ t.
+      old_emptied_lem = λ t.
+          false≢true (ap is_old ((t (hub-after two_old) 0 9 2 0 0 7 1 [] (reached bench two_old)).other_slots 1 (λ e. omega (arith, e))));
+      old_cleared_lem = λ t.
           let z : ◌≡◌ {A = ℕ} 0 1 =
-          ap (λ (p : Payload). p.len) ((t (hub-after two-old) 0 9 2 0 0 7 1 [] (reached bench two-old)).other-payloads 1 (λ e. omega (arith, e))) in
+          ap (λ (p : Payload). p.len) ((t (hub-after two_old) 0 9 2 0 0 7 1 [] (reached bench two_old)).other_payloads 1 (λ e. omega (arith, e))) in
           omega (arith, z);
-      repeat-stored = λ t.
+      repeat_stored_lem = λ t.
           let cs = set_configuration1 ∷ start_out 5 1 (9 ∷ []) ∷ [] in
           let z : ◌≡◌ {A = ℕ} 0 1 = ap (λ (h : Hub). (payload_at h 0).len) (t (hub-after cs) 0 1 2 0 0 5 1 [] (reached bench cs)) in
           omega (arith, z);

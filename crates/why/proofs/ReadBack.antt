@@ -18,20 +18,20 @@ use Rattle.why.specs.declared.Reason.TheVariants.{Nothing, Number, HeldBy, Reuse
 use Rattle.why.specs.Said.{place}
 use Rattle.why.specs.Bytes.{bytes_of, ReasonsApart}
 
-fault-from : ℕ → RequestFault
-fault-from n =
+fault_from : ℕ → RequestFault
+fault_from n =
     cond (eqb n 0) wrong.TypeOrCode (cond (eqb n 1) wrong.Unconfigured (cond (eqb n 2) wrong.Value (cond (eqb n 3) wrong.Index wrong.Length)))
 
-fault-back : (w : RequestFault) → fault-from (place w) ≡ w
-unfolding fault-from
-fault-back wrong.TypeOrCode = refl
-fault-back wrong.Unconfigured = refl
-fault-back wrong.Value = refl
-fault-back wrong.Index = refl
-fault-back wrong.Length = refl
+fault_back : (w : RequestFault) → fault_from (place w) ≡ w
+unfolding fault_from
+fault_back wrong.TypeOrCode = refl
+fault_back wrong.Unconfigured = refl
+fault_back wrong.Value = refl
+fault_back wrong.Index = refl
+fault_back wrong.Length = refl
 
-abbrev bits-from : List Bool → Changes
-bits-from l =
+abbrev bits_from : List Bool → Changes
+bits_from l =
     record {
       connection = get_or l 0 false;
       enable = get_or l 1 false;
@@ -40,27 +40,27 @@ bits-from l =
       reset = get_or l 4 false;
     }
 
-changes-from : ℕ → Changes
-changes-from n = bits-from (bits_of 8 n)
+changes_from : ℕ → Changes
+changes_from n = bits_from (bits_of 8 n)
 
-changes-back : (c : Changes) → changes-from (byte_of (change_low c)) ≡ c
-unfolding changes-from
-changes-back c = ap bits-from (bits_back (change_low c))
+changes_back : (c : Changes) → changes_from (byte_of (change_low c)) ≡ c
+unfolding changes_from
+changes_back c = ap bits_from (bits_back (change_low c))
 
-abbrev port-changes-from : List ℕ → PortChanges
-port-changes-from l =
+abbrev port_changes_from : List ℕ → PortChanges
+port_changes_from l =
     record {
-      port1 = changes-from (get_or l 0 0);
-      port2 = changes-from (get_or l 1 0);
-      port3 = changes-from (get_or l 2 0);
-      port4 = changes-from (get_or l 3 0);
-      port5 = changes-from (get_or l 4 0);
-      port6 = changes-from (get_or l 5 0);
-      port7 = changes-from (get_or l 6 0);
+      port1 = changes_from (get_or l 0 0);
+      port2 = changes_from (get_or l 1 0);
+      port3 = changes_from (get_or l 2 0);
+      port4 = changes_from (get_or l 3 0);
+      port5 = changes_from (get_or l 4 0);
+      port6 = changes_from (get_or l 5 0);
+      port7 = changes_from (get_or l 6 0);
     }
 
-reason-from : ReasonBytes → Reason
-reason-from t =
+reason_from : ReasonBytes → Reason
+reason_from t =
     cond (eqb t.kind 0) Nothing
     (cond (eqb t.kind 1) (Number t.value)
     (cond (eqb t.kind 2) (HeldBy (record { 0 = t.value }))
@@ -68,20 +68,20 @@ reason-from t =
     (cond (eqb t.kind 4) (TookFree (record { 0 = t.value }))
     (cond (eqb t.kind 5) LimitReached
     (cond (eqb t.kind 6) NoRoom
-    (cond (eqb t.kind 7) (Changed (port-changes-from t.changes)) (Wrong (fault-from t.value)))))))))
+    (cond (eqb t.kind 7) (Changed (port_changes_from t.changes)) (Wrong (fault_from t.value)))))))))
 
-reason-back : (r : Reason) → reason-from (bytes_of r) ≡ r
-unfolding reason-from
-reason-back Nothing = refl
-reason-back (Number n) = refl
-reason-back (HeldBy b) = refl
-reason-back (Reused b) = refl
-reason-back (TookFree b) = refl
-reason-back LimitReached = refl
-reason-back NoRoom = refl
-reason-back (Changed f) =
-    rw (changes-back f.port1, changes-back f.port2, changes-back f.port3, changes-back f.port4, changes-back f.port5, changes-back f.port6, changes-back f.port7)
-reason-back (Wrong w) = ap Wrong (fault-back w)
+reason_back : (r : Reason) → reason_from (bytes_of r) ≡ r
+unfolding reason_from
+reason_back Nothing = refl
+reason_back (Number n) = refl
+reason_back (HeldBy b) = refl
+reason_back (Reused b) = refl
+reason_back (TookFree b) = refl
+reason_back LimitReached = refl
+reason_back NoRoom = refl
+reason_back (Changed f) =
+    rw (changes_back f.port1, changes_back f.port2, changes_back f.port3, changes_back f.port4, changes_back f.port5, changes_back f.port6, changes_back f.port7)
+reason_back (Wrong w) = ap Wrong (fault_back w)
 
-pub reasons-apart : ReasonsApart
-reasons-apart r s e = sym (reason-back r) ∙ ap reason-from e ∙ reason-back s
+pub reasons_apart_lem : ReasonsApart
+reasons_apart_lem r s e = sym (reason_back r) ∙ ap reason_from e ∙ reason_back s

@@ -84,8 +84,8 @@ module _ (h : Hub) (s : List ℕ) where
       go true e false v i l = refl
       go false e c v i l = refl
 
-  tests-true : SaidOfRequest by_tests h s
-  tests-true =
+  tests_true : SaidOfRequest by_tests h s
+  tests_true =
       go (right wrong.TypeOrCode h s) refl (right wrong.Unconfigured h s) refl (right wrong.Value h s) refl (right wrong.Index h s) refl
       (right wrong.Length h s) refl
     where
@@ -100,69 +100,69 @@ module _ (h : Hub) (s : List ℕ) where
           small wrong.Index = omega arith
           small wrong.Length = omega arith
       go true n true c true v true i false l =
-          record { is-wrong = l; before = before 4 (λ _. n) (λ _. c) (λ _. v) (λ _. i) (λ k. absurd (omega (arith, k))) }
+          record { is_wrong = l; before = before 4 (λ _. n) (λ _. c) (λ _. v) (λ _. i) (λ k. absurd (omega (arith, k))) }
       go true n true c true v false i l z =
-          record { is-wrong = i; before = before 3 (λ _. n) (λ _. c) (λ _. v) (λ k. absurd (omega (arith, k))) (λ k. absurd (omega (arith, k))) }
+          record { is_wrong = i; before = before 3 (λ _. n) (λ _. c) (λ _. v) (λ k. absurd (omega (arith, k))) (λ k. absurd (omega (arith, k))) }
       go true n true c false v i y l z =
           record {
-            is-wrong = v;
+            is_wrong = v;
             before = before 2 (λ _. n) (λ _. c) (λ k. absurd (omega (arith, k))) (λ k. absurd (omega (arith, k))) (λ k. absurd (omega (arith, k)));
           }
       go true n false c v x i y l z =
           record {
-            is-wrong = c;
+            is_wrong = c;
             before = before 1 (λ _. n) (λ k. absurd (omega (arith, k))) (λ k. absurd (omega (arith, k))) (λ k. absurd (omega (arith, k)))
                 (λ k. absurd (omega (arith, k)));
           }
       go false n c w v x i y l z =
           record {
-            is-wrong = n;
+            is_wrong = n;
             before = before 0 (λ k. absurd (omega (arith, k))) (λ k. absurd (omega (arith, k))) (λ k. absurd (omega (arith, k)))
                 (λ k. absurd (omega (arith, k))) (λ k. absurd (omega (arith, k)));
           }
 
-  pub request-true : SaidOfRequest (request_reason h s) h s
-  request-true = subst (λ (r : Reason). SaidOfRequest r h s) (sym reads) tests-true
+  pub request_true : SaidOfRequest (request_reason h s) h s
+  request_true = subst (λ (r : Reason). SaidOfRequest r h s) (sym reads) tests_true
 
-  tests-only : (r : Reason) → SaidOfRequest r h s → r ≡ by_tests
-  tests-only (Wrong wrong.TypeOrCode) f = rw f.is-wrong
-  tests-only (Wrong wrong.Unconfigured) f = rw (f.before wrong.TypeOrCode (omega arith), f.is-wrong)
-  tests-only (Wrong wrong.Value) f = rw (f.before wrong.TypeOrCode (omega arith), f.before wrong.Unconfigured (omega arith), f.is-wrong)
-  tests-only (Wrong wrong.Index) f =
-      rw (f.before wrong.TypeOrCode (omega arith), f.before wrong.Unconfigured (omega arith), f.before wrong.Value (omega arith), f.is-wrong)
-  tests-only (Wrong wrong.Length) f =
-      rw (f.before wrong.TypeOrCode (omega arith), f.before wrong.Unconfigured (omega arith), f.before wrong.Value (omega arith), f.before wrong.Index (omega arith), f.is-wrong)
-  tests-only Nothing f = rw (f wrong.TypeOrCode, f wrong.Unconfigured, f wrong.Value, f wrong.Index, f wrong.Length)
-  tests-only (Number n) f = absurd f
-  tests-only (HeldBy b) f = absurd f
-  tests-only (Reused b) f = absurd f
-  tests-only (TookFree b) f = absurd f
-  tests-only NoRoom f = absurd f
-  tests-only LimitReached f = absurd f
-  tests-only (Changed f) g = absurd g
+  tests_only : (r : Reason) → SaidOfRequest r h s → r ≡ by_tests
+  tests_only (Wrong wrong.TypeOrCode) f = rw f.is_wrong
+  tests_only (Wrong wrong.Unconfigured) f = rw (f.before wrong.TypeOrCode (omega arith), f.is_wrong)
+  tests_only (Wrong wrong.Value) f = rw (f.before wrong.TypeOrCode (omega arith), f.before wrong.Unconfigured (omega arith), f.is_wrong)
+  tests_only (Wrong wrong.Index) f =
+      rw (f.before wrong.TypeOrCode (omega arith), f.before wrong.Unconfigured (omega arith), f.before wrong.Value (omega arith), f.is_wrong)
+  tests_only (Wrong wrong.Length) f =
+      rw (f.before wrong.TypeOrCode (omega arith), f.before wrong.Unconfigured (omega arith), f.before wrong.Value (omega arith), f.before wrong.Index (omega arith), f.is_wrong)
+  tests_only Nothing f = rw (f wrong.TypeOrCode, f wrong.Unconfigured, f wrong.Value, f wrong.Index, f wrong.Length)
+  tests_only (Number n) f = absurd f
+  tests_only (HeldBy b) f = absurd f
+  tests_only (Reused b) f = absurd f
+  tests_only (TookFree b) f = absurd f
+  tests_only NoRoom f = absurd f
+  tests_only LimitReached f = absurd f
+  tests_only (Changed f) g = absurd g
 
-  pub request-only : (r : Reason) → SaidOfRequest r h s → r ≡ request_reason h s
-  request-only r w = tests-only r w ∙ sym reads
+  pub request_only : (r : Reason) → SaidOfRequest r h s → r ≡ request_reason h s
+  request_only r w = tests_only r w ∙ sym reads
 
   -- ---- it is enough for 2
 
-  wrong-stalls : (n : Lane) (f : Fault) → requested h n (request.Wrong f) ≡ refuse 2 h
+  wrong_stalls : (n : Lane) (f : Fault) → requested h n (request.Wrong f) ≡ refuse 2 h
   unfolding requested
-  wrong-stalls n f = elim (h.configured || false) as (λ x. cond x (refuse 2 h) (refuse 2 h) ≡ refuse 2 h) [ true ↦ refl | false ↦ refl ]
+  wrong_stalls n f = elim (h.configured || false) as (λ x. cond x (refuse 2 h) (refuse 2 h) ≡ refuse 2 h) [ true ↦ refl | false ↦ refl ]
 
   -- a request that is served unconfigured is of one of the first three kinds
-  meaning-served : (y : Kind) (v i l : ℕ) → served_always (meaning y v i l) ≡ served_unconfigured y
-  meaning-served kind.Unknown v i l = refl
-  meaning-served kind.SetConfiguration v i l = refl
-  meaning-served kind.GetConfiguration v i l = refl
-  meaning-served kind.GetHubDescriptor v i l = refl
-  meaning-served kind.GetHubStatus v i l = refl
-  meaning-served kind.GetPortStatus v i l = refl
-  meaning-served kind.ClearHubFeature v i l = refl
-  meaning-served kind.ClearPortFeature v i l = refl
-  meaning-served kind.SetPortFeature v i l = refl
-  meaning-served kind.ClearTTBuffer v i l = refl
-  meaning-served kind.ResetTT v i l = refl
+  meaning_served : (y : Kind) (v i l : ℕ) → served_always (meaning y v i l) ≡ served_unconfigured y
+  meaning_served kind.Unknown v i l = refl
+  meaning_served kind.SetConfiguration v i l = refl
+  meaning_served kind.GetConfiguration v i l = refl
+  meaning_served kind.GetHubDescriptor v i l = refl
+  meaning_served kind.GetHubStatus v i l = refl
+  meaning_served kind.GetPortStatus v i l = refl
+  meaning_served kind.ClearHubFeature v i l = refl
+  meaning_served kind.ClearPortFeature v i l = refl
+  meaning_served kind.SetPortFeature v i l = refl
+  meaning_served kind.ClearTTBuffer v i l = refl
+  meaning_served kind.ResetTT v i l = refl
 
   unserved : served_unconfigured k ≡ false → served_always q ≡ false
   unfolding request_of checked
@@ -172,15 +172,15 @@ module _ (h : Hub) (s : List ℕ) where
       go : (n v i l : Bool)
           → served_always (cond n (cond v (cond i (cond l (meaning k (setup_of s).value (setup_of s).index (setup_of s).length) (request.Wrong fault.Length)) (request.Wrong fault.Index)) (request.Wrong fault.Value)) (request.Wrong fault.TypeOrCode))
           ≡ false
-      go true true true true = meaning-served k (setup_of s).value (setup_of s).index (setup_of s).length ∙ u
+      go true true true true = meaning_served k (setup_of s).value (setup_of s).index (setup_of s).length ∙ u
       go true true true false = refl
       go true true false l = refl
       go true false i l = refl
       go false v i l = refl
 
-  unconfigured-stalls : (n : Lane) → right wrong.Unconfigured h s ≡ false → requested h n q ≡ refuse 2 h
+  unconfigured_stalls : (n : Lane) → right wrong.Unconfigured h s ≡ false → requested h n q ≡ refuse 2 h
   unfolding requested
-  unconfigured-stalls n e = go h.configured refl (served_unconfigured k) refl e
+  unconfigured_stalls n e = go h.configured refl (served_unconfigured k) refl e
     where
       go : (x : Bool) → h.configured ≡ x → (y : Bool) → served_unconfigured k ≡ y → x || y ≡ false
           → cond (h.configured || served_always q) (by_request h n q) (refuse 2 h) ≡ refuse 2 h
@@ -188,40 +188,40 @@ module _ (h : Hub) (s : List ℕ) where
       go false c true u f = absurd (true≢false f)
       go false c false u f = rw (c, unserved u)
 
-  pub wrong-enough : (n : Lane) (w : RequestFault) → FirstWrong w h s → requested h n q ≡ refuse 2 h
+  pub wrong_enough : (n : Lane) (w : RequestFault) → FirstWrong w h s → requested h n q ≡ refuse 2 h
   unfolding request_of checked
-  wrong-enough n wrong.TypeOrCode f = rw f.is-wrong (wrong-stalls n fault.TypeOrCode)
-  wrong-enough n wrong.Unconfigured f = unconfigured-stalls n f.is-wrong
-  wrong-enough n wrong.Value f = rw (f.before wrong.TypeOrCode (omega arith), f.is-wrong) (wrong-stalls n fault.Value)
-  wrong-enough n wrong.Index f =
-      rw (f.before wrong.TypeOrCode (omega arith), f.before wrong.Value (omega arith), f.is-wrong) (wrong-stalls n fault.Index)
-  wrong-enough n wrong.Length f =
-      rw (f.before wrong.TypeOrCode (omega arith), f.before wrong.Value (omega arith), f.before wrong.Index (omega arith), f.is-wrong) (wrong-stalls n fault.Length)
+  wrong_enough n wrong.TypeOrCode f = rw f.is_wrong (wrong_stalls n fault.TypeOrCode)
+  wrong_enough n wrong.Unconfigured f = unconfigured_stalls n f.is_wrong
+  wrong_enough n wrong.Value f = rw (f.before wrong.TypeOrCode (omega arith), f.is_wrong) (wrong_stalls n fault.Value)
+  wrong_enough n wrong.Index f =
+      rw (f.before wrong.TypeOrCode (omega arith), f.before wrong.Value (omega arith), f.is_wrong) (wrong_stalls n fault.Index)
+  wrong_enough n wrong.Length f =
+      rw (f.before wrong.TypeOrCode (omega arith), f.before wrong.Value (omega arith), f.before wrong.Index (omega arith), f.is_wrong) (wrong_stalls n fault.Length)
 
   -- ---- and where nothing is wrong, the request is served
 
-  meaning-not-2 : (n : Lane) (y : Kind) (v i l : ℕ) → is_known y ≡ true → ¬ ((by_request h n (meaning y v i l)).answer.number ≡ 2)
-  meaning-not-2 n kind.Unknown v i l e z = absurd (false≢true e)
-  meaning-not-2 n kind.SetConfiguration v i l e z = absurd (omega (arith, z))
-  meaning-not-2 n kind.GetConfiguration v i l e z = absurd (omega (arith, z))
-  meaning-not-2 n kind.GetHubDescriptor v i l e z = absurd (omega (arith, z))
-  meaning-not-2 n kind.GetHubStatus v i l e z = absurd (omega (arith, z))
-  meaning-not-2 n kind.GetPortStatus v i l e z = absurd (omega (arith, z))
-  meaning-not-2 n kind.ClearHubFeature v i l e z = absurd (omega (arith, z))
-  meaning-not-2 n kind.ClearPortFeature v i l e z = absurd (omega (arith, z))
-  meaning-not-2 n kind.SetPortFeature v i l e z = absurd (omega (arith, z))
-  meaning-not-2 n kind.ClearTTBuffer v i l e z = absurd (omega (arith, z))
-  meaning-not-2 n kind.ResetTT v i l e z = absurd (omega (arith, z))
+  meaning_not_2 : (n : Lane) (y : Kind) (v i l : ℕ) → is_known y ≡ true → ¬ ((by_request h n (meaning y v i l)).answer.number ≡ 2)
+  meaning_not_2 n kind.Unknown v i l e z = absurd (false≢true e)
+  meaning_not_2 n kind.SetConfiguration v i l e z = absurd (omega (arith, z))
+  meaning_not_2 n kind.GetConfiguration v i l e z = absurd (omega (arith, z))
+  meaning_not_2 n kind.GetHubDescriptor v i l e z = absurd (omega (arith, z))
+  meaning_not_2 n kind.GetHubStatus v i l e z = absurd (omega (arith, z))
+  meaning_not_2 n kind.GetPortStatus v i l e z = absurd (omega (arith, z))
+  meaning_not_2 n kind.ClearHubFeature v i l e z = absurd (omega (arith, z))
+  meaning_not_2 n kind.ClearPortFeature v i l e z = absurd (omega (arith, z))
+  meaning_not_2 n kind.SetPortFeature v i l e z = absurd (omega (arith, z))
+  meaning_not_2 n kind.ClearTTBuffer v i l e z = absurd (omega (arith, z))
+  meaning_not_2 n kind.ResetTT v i l e z = absurd (omega (arith, z))
 
-  pub right-served : (n : Lane) → ((w : RequestFault) → right w h s ≡ true) → ¬ ((requested h n q).answer.number ≡ 2)
+  pub right_served : (n : Lane) → ((w : RequestFault) → right w h s ≡ true) → ¬ ((requested h n q).answer.number ≡ 2)
   unfolding requested request_of checked
-  right-served n f =
+  right_served n f =
       rw (
         f wrong.TypeOrCode,
         f wrong.Value,
         f wrong.Index,
         f wrong.Length,
-        meaning-served k (setup_of s).value (setup_of s).index (setup_of s).length,
+        meaning_served k (setup_of s).value (setup_of s).index (setup_of s).length,
         f wrong.Unconfigured,
       )
-      (meaning-not-2 n k (setup_of s).value (setup_of s).index (setup_of s).length (f wrong.TypeOrCode))
+      (meaning_not_2 n k (setup_of s).value (setup_of s).index (setup_of s).length (f wrong.TypeOrCode))

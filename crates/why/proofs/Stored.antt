@@ -5,7 +5,7 @@ use mathlib.Core.Bool.{Bool, true, false, cond, and-eq-true_iff}
 use mathlib.Core.List.{List}
 use lib.ListN.{length, set}
 use Rattle.payload.specs.Payload.{content, payload_of}
-use Rattle.payload.proofs.Laws.{content-of}
+use Rattle.payload.proofs.Laws.{content_of}
 use Rattle.buffer.specs.declared.Slot.{Slot}
 use Rattle.buffer.specs.declared.Slot.TheVariants.{Empty, Pending, Ready, Old}
 use Rattle.buffer.specs.declared.Buffer.{Buffer}
@@ -22,8 +22,8 @@ use Rattle.translator.specs.Translator.{at}
 use Rattle.translator.specs.Order.{waiting, reranked, ranked_in, ranked}
 use Rattle.translator.specs.StartSplit.{stored, start_split}
 use Rattle.translator.proofs.At.{at_same, at_other, at-ranked, length-ranked}
-use Rattle.translator.proofs.Kept.{start-le}
-use Rattle.translator.proofs.Calls.{StartedAs, started-as}
+use Rattle.translator.proofs.Kept.{start_le}
+use Rattle.translator.proofs.Calls.{StartedAs, started_as_lem}
 use Rattle.numbers.specs.Split.{split_named, split_from}
 use Rattle.hub.specs.declared.Hub.{Hub}
 use Rattle.hub.specs.Hub.{with_translator}
@@ -35,8 +35,8 @@ use Rattle.why.specs.declared.Reason.TheVariants.{Number}
 use Rattle.why.specs.Said.{is_number}
 use Rattle.why.specs.Why.{numbered, choice_reason, rule_reason, why_of}
 use Rattle.why.specs.Claims.{placeless, StoredIn, Leaves, WhyStored}
-use Rattle.why.proofs.Passing.{number-due, by-rule}
-use Rattle.why.proofs.Starts.{picked, start-chosen}
+use Rattle.why.proofs.Passing.{number_due, by_rule}
+use Rattle.why.proofs.Starts.{picked, start_chosen}
 
 placeless-reranked : (bs : List Buffer) (s : Slot) → placeless (reranked bs s) ≡ placeless s
 placeless-reranked bs Empty = refl
@@ -45,15 +45,15 @@ placeless-reranked bs (Ready s r) = refl
 placeless-reranked bs (Old s r) = refl
 
 module _ (h : Hub) (s : StartSplit) (l : List ℕ) (short : length l ≤ 64) where
-  stored-in : (n : BufferNumber) → n.0 < length h.translator.buffers → StoredIn n s l h (with_translator h (stored h.translator n s l))
+  stored_in : (n : BufferNumber) → n.0 < length h.translator.buffers → StoredIn n s l h (with_translator h (stored h.translator n s l))
   unfolding stored
-  stored-in n here =
+  stored_in n here =
       record {
         place = waiting bs;
         pending = ap (λ (b : Buffer). b.slot) same;
-        payload = ap (λ (b : Buffer). content b.payload) same ∙ content-of l short;
-        other-slots = λ i ne. ap (λ (b : Buffer). placeless b.slot) (other i ne) ∙ placeless-reranked bs (at bs i).slot;
-        other-payloads = λ i ne. ap (λ (b : Buffer). b.payload) (other i ne);
+        payload = ap (λ (b : Buffer). content b.payload) same ∙ content_of l short;
+        other_slots = λ i ne. ap (λ (b : Buffer). placeless b.slot) (other i ne) ∙ placeless-reranked bs (at bs i).slot;
+        other_payloads = λ i ne. ap (λ (b : Buffer). b.payload) (other i ne);
       }
     where
       bs : List Buffer
@@ -75,12 +75,12 @@ module _ (h : Hub) (s : StartSplit) (l : List ℕ) (short : length l ≤ 64) whe
   leaves choice.NoRoom u x = ap (with_translator h) x
   leaves choice.LimitReached u x = ap (with_translator h) x
   leaves (choice.Held n) u x = ap (with_translator h) x
-  leaves (choice.Reused n) u x = subst (λ (v : Translator). StoredIn n s l h (with_translator h v)) (sym x.1) (stored-in n x.0)
-  leaves (choice.Took n) u x = subst (λ (v : Translator). StoredIn n s l h (with_translator h v)) (sym x.1) (stored-in n x.0)
+  leaves (choice.Reused n) u x = subst (λ (v : Translator). StoredIn n s l h (with_translator h v)) (sym x.1) (stored_in n x.0)
+  leaves (choice.Took n) u x = subst (λ (v : Translator). StoredIn n s l h (with_translator h v)) (sym x.1) (stored_in n x.0)
 
-pub why-stored : WhyStored step why_of
+pub why_stored : WhyStored step why_of
 unfolding why_of numbered rule_reason served within
-why-stored h z p t f g a e l valid = go (is_number (step h c).answer.number) refl
+why_stored h z p t f g a e l valid = go (is_number (step h c).answer.number) refl
   where
     c : Call
     c = Start z p t f g a e l
@@ -89,11 +89,11 @@ why-stored h z p t f g a e l valid = go (is_number (step h c).answer.number) ref
     s = split_from z p t f g a e
 
     go : (x : Bool) → is_number (step h c).answer.number ≡ x → Leaves (cond x (Number (step h c).answer.number) (rule_reason h c)) s l h (step h c).next
-    go true q = let d = number-due h c valid q in (refusals.unchanged d.refusal h c valid d.number).0
+    go true q = let d = number_due h c valid q in (refusals.unchanged d.refusal h c valid d.number).0
     go false q =
-        let b = by-rule h c q in
-        let short = start-le s (length l) ((and-eq-true_iff (split_named z p t f g a e) (start_fits s (length l))).0 b.fits).1 in
+        let b = by_rule h c q in
+        let short = start_le s (length l) ((and-eq-true_iff (split_named z p t f g a e) (start_fits s (length l))).0 b.fits).1 in
         let o = start_split h.translator s l in
-        let k : o.answer ≡ Chosen (picked h (key_of s)) = start-chosen h z p t f g a e l b.fits in
-        let x = subst (λ (v : StartAnswer). StartedAs h.translator s l v o.next) k (started-as h.translator s l) in
+        let k : o.answer ≡ Chosen (picked h (key_of s)) = start_chosen h z p t f g a e l b.fits in
+        let x = subst (λ (v : StartAnswer). StartedAs h.translator s l v o.next) k (started_as_lem h.translator s l) in
         rw (b.rule, k) (leaves h s l short (picked h (key_of s)) o.next x)

@@ -47,24 +47,24 @@ pub record WhyCases : Type 0 where
   -- P4
   pub polled : why_after p4.calls (Poll 0 64) ≡ Changed (at_ports2_and4 connected no_changes)
   -- P7, a port error at port 2, and a device at port 4: each port and change bit
-  pub polled-more :
+  pub polled_more :
       why_after (p7.calls ++ port_error 2 ∷ set_power 4 ∷ attach_full 4 ∷ []) (Poll 1 64) ≡ Changed (at_ports2_and4 failed_after_reset connected)
   pub quiet : why_after (set_configuration1 ∷ []) (Poll 0 64) ≡ Nothing
   -- P11: lane 0 holds two of three buffers
   pub limit : why_after p11.calls (start_in 7 1) ≡ LimitReached
   -- a key of the other lane is another key
-  pub other-lane : why_after p11.calls (start_from 1 6 1) ≡ TookFree (buffer 2)
+  pub other_lane : why_after p11.calls (start_from 1 6 1) ≡ TookFree (buffer 2)
   -- all three are pending: lane 1 has no room, and lane 0 is at its limit all the same
   pub no_room : why_after (p11.calls ++ start_from 1 6 1 ∷ []) (start_from 1 7 1) ≡ NoRoom
-  pub limit-before-no-room : why_after (p11.calls ++ start_from 1 6 1 ∷ []) (start_in 7 1) ≡ LimitReached
+  pub limit_before_no_room_lem : why_after (p11.calls ++ start_from 1 6 1 ∷ []) (start_in 7 1) ≡ LimitReached
   -- in its own old buffer too; a repeat is none
-  pub limit-old : why_after old_above (start_in 5 1) ≡ LimitReached
-  pub limit-repeat : why_after old_above (start_in 7 1) ≡ HeldBy (buffer 0)
+  pub limit_old : why_after old_above (start_in 5 1) ≡ LimitReached
+  pub limit_repeat : why_after old_above (start_in 7 1) ≡ HeldBy (buffer 0)
   pub held : why_after p11.calls (start_in 6 1) ≡ HeldBy (buffer 1)
   -- P12: buffer 0 is old under (5,1)
   pub reused : why_after p12.calls (start_in 5 1) ≡ Reused (buffer 0)
-  pub took-old : why_after p12.calls (start_in 7 1) ≡ TookFree (buffer 0)
-  pub took-empty : why_after (set_configuration1 ∷ start_in 5 1 ∷ []) (start_in 6 1) ≡ TookFree (buffer 1)
+  pub took_old : why_after p12.calls (start_in 7 1) ≡ TookFree (buffer 0)
+  pub took_empty : why_after (set_configuration1 ∷ start_in 5 1 ∷ []) (start_in 6 1) ≡ TookFree (buffer 1)
   -- a feature that isn't settable at a port that isn't there: unconfigured comes first, then value, then index
   pub unconfigured : why_after [] (set_port_feature 3 5) ≡ Wrong wrong.Unconfigured
   pub value : why_after (set_configuration1 ∷ []) (set_port_feature 3 5) ≡ Wrong wrong.Value
@@ -73,6 +73,6 @@ pub record WhyCases : Type 0 where
   pub code : why_after [] (Control 0 (0x80 ∷ 0x09 ∷ 7 ∷ 0 ∷ 0 ∷ 0 ∷ 0 ∷ 0 ∷ []) 64) ≡ Wrong wrong.TypeOrCode
   -- other answers: a request served, a complete-split answered 2 or 4, a launch answered 3
   pub served : why_after (set_configuration1 ∷ []) (set_power 4) ≡ Nothing
-  pub no-match : why_after p11.calls (complete_in 7 1) ≡ Nothing
+  pub no_match : why_after p11.calls (complete_in 7 1) ≡ Nothing
   pub not_yet : why_after p11.calls (complete_in 5 1) ≡ Nothing
-  pub none-pending : why_after (set_configuration1 ∷ []) (Launch 64) ≡ Nothing
+  pub none_pending : why_after (set_configuration1 ∷ []) (Launch 64) ≡ Nothing

@@ -80,12 +80,12 @@ NotMade x = (n : x.machine.Made) (is : List (Item x.machine.Asked)) → made_of 
 -- demand 3 whole, and the order of launches, with explained calls anywhere in the runs
 pub record Demand3WithReasons (x : Explainer) : Type 0 where
   -- whatever keys are marked; one key; every key of a lane
-  pub set-hidden : (m : Marks) → HiddenWithReasons x m
-  pub mark-hidden : (m : Key) → HiddenWithReasons x (only_key m)
-  pub lane-hidden : (z : Lane) → HiddenWithReasons x (every_key_of z)
+  pub set_hidden : (m : Marks) → HiddenWithReasons x m
+  pub mark_hidden : (m : Key) → HiddenWithReasons x (only_key m)
+  pub lane_hidden : (z : Lane) → HiddenWithReasons x (every_key_of z)
   -- a data answer holds exactly the bytes delivered for the latest start-split stored under its key
-  pub data-explained : (n : x.machine.Made) (is : List (Item x.machine.Asked)) → AllExplained [] (made_of (seen x n is))
-  pub launch-order : (n : x.machine.Made) (is : List (Item x.machine.Asked)) → AllOrdered [] (made_of (seen x n is))
+  pub data_explained : (n : x.machine.Made) (is : List (Item x.machine.Asked)) → AllExplained [] (made_of (seen x n is))
+  pub launch_order : (n : x.machine.Made) (is : List (Item x.machine.Asked)) → AllOrdered [] (made_of (seen x n is))
   pub not_made : NotMade x
 
 -- the rules, and the reason that the tool gives; it leaves the hub as it was

@@ -33,14 +33,14 @@ use Rattle.why.specs.declared.Reason.TheVariants.{Nothing, Number, HeldBy, Reuse
 -- the lane is at its limit, and no buffer is pending or ready with the key
 pub record Limited (h : Hub) (k : Key) : Type 0 where
   pub full : AtLimit k.lane h.translator
-  pub no-repeat : (i : ℕ) → InUse h.translator i → ¬ (Holding k (slot_at h i))
+  pub no_repeat : (i : ℕ) → InUse h.translator i → ¬ (Holding k (slot_at h i))
 
 -- the lane may store one more; no key match; b is the lowest-numbered empty or old one
 pub record Taken (h : Hub) (k : Key) (b : BufferNumber) : Type 0 where
   pub may : ¬ (AtLimit k.lane h.translator)
   pub free : Buffered Vacated h.translator b
   pub lowest : (i : ℕ) → i < b.0 → ¬ (Vacated (slot_at h i))
-  pub no-match : (i : ℕ) → InUse h.translator i → ¬ (With k (slot_at h i))
+  pub no_match : (i : ℕ) → InUse h.translator i → ¬ (With k (slot_at h i))
 
 abbrev pub SaidOfStart : Reason → Hub → Key → Type 0
 -- held already by buffer b
@@ -74,7 +74,7 @@ names c i b = change_bit b (get_or (by_port c) i no_changes)
 
 -- change bit b of the hub's port i + 1 is set
 pub record Stands (h : Hub) (i : ℕ) (b : ChangeBit) : Type 0 where
-  pub one-of-n : i < h.identity.ports
+  pub one_of_n : i < h.identity.ports
   pub set : change_bit b (port_indexed h i).changes ≡ true
 
 pub record SomeStands (h : Hub) : Type 0 where
@@ -136,7 +136,7 @@ place wrong.Length = 4
 
 -- the first thing that is wrong
 pub record FirstWrong (w : RequestFault) (h : Hub) (s : List ℕ) : Type 0 where
-  pub is-wrong : right w h s ≡ false
+  pub is_wrong : right w h s ≡ false
   pub before : (v : RequestFault) → place v < place w → right v h s ≡ true
 
 abbrev pub SaidOfRequest : Reason → Hub → List ℕ → Type 0

@@ -1,4 +1,4 @@
-use Rattle.area.proofs.Parts.{buffer-none, buffer-some}
+use Rattle.area.proofs.Parts.{buffer_none, buffer_some}
 use borrow.Author.Rules.{rules}
 use Rattle.area.proofs.buffer_at.Statement.{statement}
 use Rattle.area.proofs.buffer_at.Tie as tie
@@ -10,7 +10,7 @@ vacant-requires : tie.Need-vacant-requires
 vacant-requires c κs = search rules
 
 returns : tie.Need-returns
-returns c = buffer-none _ _ c.before.if1.true c.vacant.ensures
+returns c = buffer_none _ _ c.before.if1.true c.vacant.ensures
 
 sub-buffer-of : tie.Need-overflow-sub-buffer-of
 sub-buffer-of c = search rules
@@ -25,7 +25,7 @@ buffer-of-requires : tie.Need-buffer-of-requires
 buffer-of-requires c κs = search rules
 
 returns-2 : tie.Need-returns-2
-returns-2 c = buffer-some _ _ c.before.before.if1.false c.buffer-of.ensures
+returns-2 c = buffer_some _ _ c.before.before.if1.false c.buffer_of_lem.ensures
 
 pub buffer-at-spec : {M : Type 1} → statement M
 buffer-at-spec =

@@ -1,4 +1,4 @@
-use Rattle.area.proofs.Area.{decode-end}
+use Rattle.area.proofs.Area.{decode_end}
 use borrow.Author.Rules.{rules}
 use Rattle.area.proofs.decode.Statement.{statement}
 use Rattle.area.proofs.decode.Tie as tie
@@ -73,7 +73,7 @@ get-buffers-requires : tie.Need-get-buffers-requires
 get-buffers-requires c κs = search rules
 
 returns : tie.Need-returns
-returns c = decode-end _ _ _ _ c.before.before.before.before.low-of.ensures c.before.before.get-ports.ensures c.get-buffers.ensures
+returns c = decode_end _ _ _ _ c.before.before.before.before.low_of_lem.ensures c.before.before.get-ports.ensures c.get-buffers.ensures
 
 pub decode-spec : {M : Type 1} → statement M
 decode-spec =

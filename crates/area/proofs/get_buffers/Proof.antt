@@ -1,4 +1,4 @@
-use Rattle.area_check.proofs.Rows.{get-turn}
+use Rattle.area_check.proofs.Rows.{get_turn}
 use Rattle.area_check.specs.Rows.{parts}
 use Rattle.area_check.specs.Read.{buffer_of, no_buffers, buffers_of}
 use mathlib.Core.List.{◌++◌}
@@ -60,8 +60,8 @@ loop-less c = search rules
 loop-again : tie.Need-loop-preserved invariant-loop decreases-loop
 loop-again c = let at = c.before.before.before in
     let below : at.loop.i < length no_buffers = omega (arith, long, at.before.before.before.requires.0) in
-    let l : length (set at.loop.row at.loop.i c.buffer-of.result) ≡ 4 = length-set at.loop.row at.loop.i c.buffer-of.result ∙ at.loop.invariant.1 in
-    (omega arith, l, get-turn buffer_of 72 no_buffers at.loop.row _ at.loop.i _ below at.loop.invariant.2 c.buffer-of.ensures)
+    let l : length (set at.loop.row at.loop.i c.buffer_of_lem.result) ≡ 4 = length-set at.loop.row at.loop.i c.buffer_of_lem.result ∙ at.loop.invariant.1 in
+    (omega arith, l, get_turn buffer_of 72 no_buffers at.loop.row _ at.loop.i _ below at.loop.invariant.2 c.buffer_of_lem.ensures)
 
 returns : tie.Need-returns invariant-loop decreases-loop
 unfolding buffers_of

@@ -1,4 +1,4 @@
-use Rattle.area_check.proofs.Rows.{get-turn}
+use Rattle.area_check.proofs.Rows.{get_turn}
 use Rattle.area_check.specs.Rows.{parts}
 use Rattle.area_check.specs.Read.{port_of, no_ports, ports_of}
 use mathlib.Core.List.{◌++◌}
@@ -60,8 +60,8 @@ loop-less c = search rules
 loop-again : tie.Need-loop-preserved invariant-loop decreases-loop
 loop-again c = let at = c.before.before.before in
     let below : at.loop.i < length no_ports = omega (arith, long, at.before.before.before.requires.0) in
-    let l : length (set at.loop.row at.loop.i c.port-of.result) ≡ 7 = length-set at.loop.row at.loop.i c.port-of.result ∙ at.loop.invariant.1 in
-    (omega arith, l, get-turn port_of 4 no_ports at.loop.row _ at.loop.i _ below at.loop.invariant.2 c.port-of.ensures)
+    let l : length (set at.loop.row at.loop.i c.port_of_lem.result) ≡ 7 = length-set at.loop.row at.loop.i c.port_of_lem.result ∙ at.loop.invariant.1 in
+    (omega arith, l, get_turn port_of 4 no_ports at.loop.row _ at.loop.i _ below at.loop.invariant.2 c.port_of_lem.ensures)
 
 returns : tie.Need-returns invariant-loop decreases-loop
 unfolding ports_of

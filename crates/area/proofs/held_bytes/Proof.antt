@@ -15,7 +15,7 @@ type-number-requires : tie.Need-type-number-requires
 type-number-requires c κs = search rules
 
 returns : tie.Need-returns
-returns c = rw (c.type-number.ensures, c.before.pid-number.ensures, c.before.before.flags-byte.ensures, c.before.before.before.same.ensures)
+returns c = rw (c.type_number_lem.ensures, c.before.pid_number_lem.ensures, c.before.before.flags-byte.ensures, c.before.before.before.same.ensures)
 
 pub held-bytes-spec : {M : Type 1} → statement M
 held-bytes-spec =

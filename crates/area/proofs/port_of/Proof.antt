@@ -26,7 +26,7 @@ marked-port-requires c κs = search rules
 
 returns : tie.Need-returns
 unfolding port_of
-returns c = rw (c.marked-port.ensures, c.before.before.state-of.ensures, c.before.before.before.before.speed-of.ensures)
+returns c = rw (c.marked-port.ensures, c.before.before.state_of_lem.ensures, c.before.before.before.before.speed-of.ensures)
 
 pub port-of-spec : {M : Type 1} → statement M
 port-of-spec =

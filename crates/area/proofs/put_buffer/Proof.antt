@@ -1,4 +1,4 @@
-use Rattle.area.proofs.Parts.{second-part, put_both}
+use Rattle.area.proofs.Parts.{second_part, put_both}
 use lib.ListN.{length}
 use mathlib.Core.Path.{◌≡◌, sym, ap, ◌∙◌}
 use borrow.Author.Rules.{rules}
@@ -41,7 +41,7 @@ fill-requires-2 c κs = let s = c.before.before.before.before.before.before.befo
     let h = c.before.before.before.before.before.before.before.slot-bytes in
     let n : length h.result ≡ 8 = search rules in
     let m : length s.args.b.payload.bytes ≡ 64 = search rules in
-    m ∙ sym (second-part s.args.out.now f.new.0 s.requires (ap length f.ensures ∙ n))
+    m ∙ sym (second_part s.args.out.now f.new.0 s.requires (ap length f.ensures ∙ n))
 
 same_length : tie.Need-same-length
 same_length c = search rules

@@ -1,4 +1,4 @@
-use Rattle.area.proofs.Parts.{put-none, put_some}
+use Rattle.area.proofs.Parts.{put_none, put_some}
 use borrow.Author.Rules.{rules}
 use Rattle.area.proofs.put_buffer_at.Statement.{statement}
 use Rattle.area.proofs.put_buffer_at.Tie as tie
@@ -7,7 +7,7 @@ add-end : tie.Need-overflow-add-end
 add-end c = search rules
 
 returns : tie.Need-returns
-returns c = put-none _ _ c.if1.true c.before.before.args.buffer
+returns c = put_none _ _ c.if1.true c.before.before.args.buffer
 
 sub-put-buffer : tie.Need-overflow-sub-put-buffer
 sub-put-buffer c = search rules

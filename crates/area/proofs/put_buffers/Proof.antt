@@ -1,4 +1,4 @@
-use Rattle.area_check.proofs.Rows.{Put, put-start, put-turn, put-length, put-end, part-size}
+use Rattle.area_check.proofs.Rows.{Put, put_start, put_turn, put_length, put_end, part_size}
 use Rattle.area.specs.Written.{buffer_bytes}
 use lib.ListN.{length}
 use borrow.Author.Rules.{rules}
@@ -15,7 +15,7 @@ abbrev decreases-loop : tie.decreases-loop
 decreases-loop out₀ n buffers i₀ out i = n - i
 
 loop-holds : tie.Need-loop-init invariant-loop decreases-loop
-loop-holds c = (omega arith, c.before.requires.1, put-start buffer_bytes 72 _ _)
+loop-holds c = (omega arith, c.before.requires.1, put_start buffer_bytes 72 _ _)
 
 mul_at : tie.Need-overflow-mul-at invariant-loop decreases-loop
 mul_at c = search rules
@@ -40,7 +40,7 @@ array-copy-out-put-buffer c = search rules
 
 put-buffer-requires : tie.Need-put-buffer-requires invariant-loop decreases-loop
 put-buffer-requires c κs = let at = c.before.before.before.loop in
-    part-size at.i _ 72 at.out c.before.before.loop-test.true at.invariant.1
+    part_size at.i _ 72 at.out c.before.before.loop-test.true at.invariant.1
 
 add-i : tie.Need-overflow-add-i invariant-loop decreases-loop
 add-i c = search rules
@@ -57,15 +57,15 @@ loop-again c = let at = c.before.before.before.before.before.before in
     let n : length xs ≡ 4 = search rules in
     let h : i < length xs = omega (arith, start.requires.0) in
     let o₀ = start.args.out.now in
-    let p = put-turn buffer_bytes 72 xs _ o₀ at.loop.out _ i h call.ensures (call.auto.0 ∙ put-buffer-requires c.before.before.before call.lifetimes) at.loop.invariant.2 in
-    (omega arith, put-length buffer_bytes 72 xs o₀ _ (i + 1) (omega (arith, start.requires.1)) p ∙ start.requires.1, p)
+    let p = put_turn buffer_bytes 72 xs _ o₀ at.loop.out _ i h call.ensures (call.auto.0 ∙ put-buffer-requires c.before.before.before call.lifetimes) at.loop.invariant.2 in
+    (omega arith, put_length buffer_bytes 72 xs o₀ _ (i + 1) (omega (arith, start.requires.1)) p ∙ start.requires.1, p)
 
 same_length : tie.Need-same-length invariant-loop decreases-loop
 same_length c = c.before.loop.invariant.1 ∙ sym c.before.before.before.requires.1
 
 returns : tie.Need-returns invariant-loop decreases-loop
 returns c = let start = c.before.before.before in
-    put-end buffer_bytes 72 start.args.n start.args.t2 start.args.out.now c.before.loop.out c.before.loop.i (omega arith) start.requires.1 c.before.loop.invariant.2
+    put_end buffer_bytes 72 start.args.n start.args.t2 start.args.out.now c.before.loop.out c.before.loop.i (omega arith) start.requires.1 c.before.loop.invariant.2
 
 pub put-buffers-spec : {M : Type 1} → statement M
 put-buffers-spec =

@@ -1,4 +1,4 @@
-use Rattle.area_check.proofs.Rows.{Put, put-start, put-turn, put-length, put-end, part-size}
+use Rattle.area_check.proofs.Rows.{Put, put_start, put_turn, put_length, put_end, part_size}
 use Rattle.area.specs.Written.{port_bytes}
 use lib.ListN.{length}
 use borrow.Author.Rules.{rules}
@@ -15,7 +15,7 @@ abbrev decreases-loop : tie.decreases-loop
 decreases-loop out₀ n ports i₀ out i = n - i
 
 loop-holds : tie.Need-loop-init invariant-loop decreases-loop
-loop-holds c = (omega arith, c.before.requires.1, put-start port_bytes 4 _ _)
+loop-holds c = (omega arith, c.before.requires.1, put_start port_bytes 4 _ _)
 
 mul-port-bytes : tie.Need-overflow-mul-port-bytes invariant-loop decreases-loop
 mul-port-bytes c = search rules
@@ -47,7 +47,7 @@ slice-aggregate-fill c = search rules
 fill-requires : tie.Need-fill-requires invariant-loop decreases-loop
 fill-requires c κs = let at = c.before.before.before.before.before.loop in
     let s : length c.before.before.port-bytes.result ≡ 4 = search rules in
-    s ∙ sym (part-size at.i _ 4 at.out c.before.before.before.before.loop-test.true at.invariant.1)
+    s ∙ sym (part_size at.i _ 4 at.out c.before.before.before.before.loop-test.true at.invariant.1)
 
 add-i : tie.Need-overflow-add-i invariant-loop decreases-loop
 add-i c = search rules
@@ -66,15 +66,15 @@ loop-again c = let at = c.before.before.before.before.before.before.before.befor
     let s : length call.result ≡ 4 = search rules in
     let f = c.before.before.fill in
     let o₀ = start.args.out.now in
-    let p = put-turn port_bytes 4 xs _ o₀ at.loop.out _ i h (f.ensures ∙ call.ensures) (ap length f.ensures ∙ s) at.loop.invariant.2 in
-    (omega arith, put-length port_bytes 4 xs o₀ _ (i + 1) (omega (arith, start.requires.1)) p ∙ start.requires.1, p)
+    let p = put_turn port_bytes 4 xs _ o₀ at.loop.out _ i h (f.ensures ∙ call.ensures) (ap length f.ensures ∙ s) at.loop.invariant.2 in
+    (omega arith, put_length port_bytes 4 xs o₀ _ (i + 1) (omega (arith, start.requires.1)) p ∙ start.requires.1, p)
 
 same_length : tie.Need-same-length invariant-loop decreases-loop
 same_length c = c.before.loop.invariant.1 ∙ sym c.before.before.before.requires.1
 
 returns : tie.Need-returns invariant-loop decreases-loop
 returns c = let start = c.before.before.before in
-    put-end port_bytes 4 start.args.n start.args.t2 start.args.out.now c.before.loop.out c.before.loop.i (omega arith) start.requires.1 c.before.loop.invariant.2
+    put_end port_bytes 4 start.args.n start.args.t2 start.args.out.now c.before.loop.out c.before.loop.i (omega arith) start.requires.1 c.before.loop.invariant.2
 
 pub put-ports-spec : {M : Type 1} → statement M
 put-ports-spec =

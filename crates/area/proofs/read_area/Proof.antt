@@ -1,5 +1,5 @@
-use Rattle.area_check.proofs.Sized.{taken-sized}
-use Rattle.area.proofs.Area.{read_taken, read-not}
+use Rattle.area_check.proofs.Sized.{taken_sized}
+use Rattle.area.proofs.Area.{read_taken, read_not}
 use mathlib.Core.Path.{sym, ◌∙◌}
 use borrow.Author.Rules.{rules}
 use Rattle.area.proofs.read_area.Statement.{statement}
@@ -9,7 +9,7 @@ is-area-requires : tie.Need-is-area-requires
 is-area-requires c κs = search rules
 
 decode-requires : tie.Need-decode-requires
-decode-requires c κs = let z = taken-sized _ (sym c.before.is-area.ensures ∙ c.if1.true) in
+decode-requires c κs = let z = taken_sized _ (sym c.before.is-area.ensures ∙ c.if1.true) in
     (z.head, z.seven, z.four, z.whole)
 
 returns : tie.Need-returns
@@ -19,7 +19,7 @@ refuse-requires : tie.Need-refuse-requires
 refuse-requires c κs = search rules
 
 returns-2 : tie.Need-returns-2
-returns-2 c = read-not _ _ c.before.before.is-area.ensures _ c.refuse.ensures c.before.if1.false
+returns-2 c = read_not _ _ c.before.before.is-area.ensures _ c.refuse.ensures c.before.if1.false
 
 pub read-area-spec : {M : Type 1} → statement M
 read-area-spec =

@@ -1,4 +1,4 @@
-use Rattle.area.proofs.Parts.{slot-none, slot-some}
+use Rattle.area.proofs.Parts.{slot_none, slot_some}
 use borrow.Author.Rules.{rules}
 use Rattle.area.proofs.slot_at.Statement.{statement}
 use Rattle.area.proofs.slot_at.Tie as tie
@@ -7,7 +7,7 @@ add-end : tie.Need-overflow-add-end
 add-end c = search rules
 
 returns : tie.Need-returns
-returns c = slot-none _ _ c.if1.true
+returns c = slot_none _ _ c.if1.true
 
 sub-slot-of : tie.Need-overflow-sub-slot-of
 sub-slot-of c = search rules
@@ -22,7 +22,7 @@ slot-of-requires : tie.Need-slot-of-requires
 slot-of-requires c κs = search rules
 
 returns-2 : tie.Need-returns-2
-returns-2 c = slot-some _ _ c.before.before.if1.false c.slot_of.ensures
+returns-2 c = slot_some _ _ c.before.before.if1.false c.slot_of.ensures
 
 pub slot-at-spec : {M : Type 1} → statement M
 slot-at-spec =

@@ -1,4 +1,4 @@
-use Rattle.area.proofs.Area.{write-not, write-end}
+use Rattle.area.proofs.Area.{write_not, write_end}
 use Rattle.translator.proofs.Lists.{unmapped}
 use lib.ListN.{length}
 use mathlib.Core.Path.{◌≡◌, ap, ◌∙◌}
@@ -32,7 +32,7 @@ add-end c = search rules
 
 returns : tie.Need-returns
 returns c = let s = c.before.before.before.before.before.before.before.before in
-    write-not s.args.hub s.args.area.now _ _ c.before.before.before.lesser.ensures c.before.lesser2.ensures c.if1.true
+    write_not s.args.hub s.args.area.now _ _ c.before.before.before.lesser.ensures c.before.lesser2.ensures c.if1.true
 
 head-bytes-requires : tie.Need-head-bytes-requires
 head-bytes-requires c κs = search rules
@@ -88,7 +88,7 @@ returns-2 c = let s = c.before.before.before.before.before.before.before.before.
     let g = c.before.before.before.before.before.before.before.before.before.before.before.before.before.before.before.head_bytes in
     let n : length g.result ≡ 8 = search rules in
     let p = c.before.before.before.before.before.before.put-ports in
-    write-end h s.args.area.now _ _ c.before.before.before.before.before.before.before.before.before.before.before.before.before.before.before.before.before.before.before.lesser.ensures c.before.before.before.before.before.before.before.before.before.before.before.before.before.before.before.before.before.lesser2.ensures lp lb c.before.before.before.before.before.before.before.before.before.before.before.before.before.before.before.before.if1.false _ _ _ (ap length f.ensures ∙ n)
+    write_end h s.args.area.now _ _ c.before.before.before.before.before.before.before.before.before.before.before.before.before.before.before.before.before.before.before.lesser.ensures c.before.before.before.before.before.before.before.before.before.before.before.before.before.before.before.before.before.lesser2.ensures lp lb c.before.before.before.before.before.before.before.before.before.before.before.before.before.before.before.before.if1.false _ _ _ (ap length f.ensures ∙ n)
     (p.auto.0 ∙ (put-ports-requires c.before.before.before.before.before.before.before p.lifetimes).1) (f.ensures ∙ g.ensures) p.ensures c.before.before.put-buffers.ensures
 
 pub write-area-spec : {M : Type 1} → statement M

@@ -1,4 +1,4 @@
-use Rattle.area_check.proofs.Rows.{blank-other, blank-zero, blank-end}
+use Rattle.area_check.proofs.Rows.{blank_other, blank_zero, blank_end}
 use Rattle.area_check.specs.Rows.{blank}
 use mathlib.Core.Logic.{⊎_elim}
 use mathlib.Core.Bool.{Bool, ◌&&◌}
@@ -34,13 +34,13 @@ loop-again c = let l = c.before.before.before.before.args.b.now in
     let at = c.before.before.before.loop in
     let h : at.i < length l = omega arith in
     ⊎_elim
-    (λ w. blank-other l st at.i at.ok h at.invariant w.0.taken ∙ ap (λ (b : Bool). b && blank (drop (at.i + 1) l)) (sym w.1))
-    (λ w. blank-zero l st at.i at.ok h at.invariant w.0.left ∙ ap (λ (b : Bool). b && blank (drop (at.i + 1) l)) (sym w.1))
+    (λ w. blank_other l st at.i at.ok h at.invariant w.0.taken ∙ ap (λ (b : Bool). b && blank (drop (at.i + 1) l)) (sym w.1))
+    (λ w. blank_zero l st at.i at.ok h at.invariant w.0.left ∙ ap (λ (b : Bool). b && blank (drop (at.i + 1) l)) (sym w.1))
     c.if1.branch
 
 returns : tie.Need-returns invariant-loop decreases-loop
 returns c = let a = c.before.before.args in
-    blank-end a.b.now a.start c.before.loop.i _ (omega arith) c.before.loop.invariant
+    blank_end a.b.now a.start c.before.loop.i _ (omega arith) c.before.loop.invariant
 
 pub blank-from-spec : {M : Type 1} → statement M
 blank-from-spec =

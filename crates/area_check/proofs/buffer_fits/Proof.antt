@@ -1,4 +1,4 @@
-use Rattle.area_check.proofs.Parts.{empty-end, held-end}
+use Rattle.area_check.proofs.Parts.{empty_end, held_end}
 use mathlib.Core.Path.{sym, ◌∙◌}
 use borrow.Author.Tests.{not-true, not-false}
 use borrow.Author.Rules.{rules}
@@ -12,7 +12,7 @@ blank-from-requires : tie.Need-blank-from-requires
 blank-from-requires c κs = search rules
 
 returns : tie.Need-returns
-returns c = c.blank-from.ensures ∙ empty-end _ c.before.before.before.before.requires c.before.if1.true
+returns c = c.blank-from.ensures ∙ empty_end _ c.before.before.before.before.requires c.before.if1.true
 
 shared-slice-read-names-fit : tie.Need-shared-slice-read-names-fit
 shared-slice-read-names-fit c = search rules
@@ -24,7 +24,7 @@ names-fit-requires : tie.Need-names-fit-requires
 names-fit-requires c κs = search rules
 
 returns-2 : tie.Need-returns-2
-returns-2 c = rw (held-end _ c.before.before.before.before.if1.false, sym c.before.names-fit.ensures ∙ not-true _ c.if2.true)
+returns-2 c = rw (held_end _ c.before.before.before.before.if1.false, sym c.before.names-fit.ensures ∙ not-true _ c.if2.true)
 
 shared-slice-read-split-fits : tie.Need-shared-slice-read-split-fits
 shared-slice-read-split-fits c = search rules
@@ -39,7 +39,7 @@ split-fits-requires : tie.Need-split-fits-requires
 split-fits-requires c κs = search rules
 
 returns-3 : tie.Need-returns-3
-returns-3 c = rw (held-end _ c.before.before.before.before.before.before.before.before.before.if1.false, sym c.before.before.before.before.before.before.names-fit.ensures ∙ not-false _ c.before.before.before.before.before.if2.false, sym c.before.split-fits.ensures ∙ not-true _ c.if3.true)
+returns-3 c = rw (held_end _ c.before.before.before.before.before.before.before.before.before.if1.false, sym c.before.before.before.before.before.before.names-fit.ensures ∙ not-false _ c.before.before.before.before.before.if2.false, sym c.before.split-fits.ensures ∙ not-true _ c.if3.true)
 
 shared-slice-read-held-fits : tie.Need-shared-slice-read-held-fits
 shared-slice-read-held-fits c = search rules
@@ -57,7 +57,7 @@ held-fits-requires : tie.Need-held-fits-requires
 held-fits-requires c κs = search rules
 
 returns-4 : tie.Need-returns-4
-returns-4 c = rw (held-end _ c.before.before.before.before.before.before.before.before.before.before.before.before.before.before.before.if1.false, sym c.before.before.before.before.before.before.before.before.before.before.before.before.names-fit.ensures ∙ not-false _ c.before.before.before.before.before.before.before.before.before.before.before.if2.false, sym c.before.before.before.before.before.before.before.split-fits.ensures ∙ not-false _ c.before.before.before.before.before.before.if3.false, sym c.before.held-fits.ensures ∙ not-true _ c.if4.true)
+returns-4 c = rw (held_end _ c.before.before.before.before.before.before.before.before.before.before.before.before.before.before.before.if1.false, sym c.before.before.before.before.before.before.before.before.before.before.before.before.names-fit.ensures ∙ not-false _ c.before.before.before.before.before.before.before.before.before.before.before.if2.false, sym c.before.before.before.before.before.before.before.split-fits.ensures ∙ not-false _ c.before.before.before.before.before.before.if3.false, sym c.before.held-fits.ensures ∙ not-true _ c.if4.true)
 
 shared-slice-read-behind : tie.Need-shared-slice-read-behind
 shared-slice-read-behind c = search rules
@@ -69,7 +69,7 @@ blank-from-requires-2 : tie.Need-blank-from-requires-2
 blank-from-requires-2 c κs = search rules
 
 returns-5 : tie.Need-returns-5
-returns-5 c = rw (held-end _ c.before.before.before.before.before.before.before.before.before.before.before.before.before.before.before.before.before.before.if1.false, sym c.before.before.before.before.before.before.before.before.before.before.before.before.before.before.before.names-fit.ensures ∙ not-false _ c.before.before.before.before.before.before.before.before.before.before.before.before.before.before.if2.false, sym c.before.before.before.before.before.before.before.before.before.before.split-fits.ensures ∙ not-false _ c.before.before.before.before.before.before.before.before.before.if3.false, sym c.before.before.before.before.held-fits.ensures ∙ not-false _ c.before.before.before.if4.false, c.blank-from2.ensures, c.before.behind.ensures)
+returns-5 c = rw (held_end _ c.before.before.before.before.before.before.before.before.before.before.before.before.before.before.before.before.before.before.if1.false, sym c.before.before.before.before.before.before.before.before.before.before.before.before.before.before.before.names-fit.ensures ∙ not-false _ c.before.before.before.before.before.before.before.before.before.before.before.before.before.before.if2.false, sym c.before.before.before.before.before.before.before.before.before.before.split-fits.ensures ∙ not-false _ c.before.before.before.before.before.before.before.before.before.if3.false, sym c.before.before.before.before.held-fits.ensures ∙ not-false _ c.before.before.before.if4.false, c.blank-from2.ensures, c.before.behind.ensures)
 
 pub buffer-fits-spec : {M : Type 1} → statement M
 buffer-fits-spec =

@@ -1,5 +1,5 @@
 use borrow.Author.Rules.{rules}
-use Rattle.area_check.proofs.Rows.{test-turn, test-stop, part-size}
+use Rattle.area_check.proofs.Rows.{test_turn, test_stop, part_size}
 use Rattle.area_check.specs.Rows.{every}
 use Rattle.area_check.specs.Read.{buffer_fits}
 use mathlib.Core.Path.{◌≡◌, refl, sym, ap, ◌∙◌}
@@ -37,12 +37,12 @@ part-buffer-fits-end c = search rules
 
 buffer-fits-requires : tie.Need-buffer-fits-requires invariant-loop decreases-loop
 buffer-fits-requires c κs = let s = c.before.before.before.before in
-    part-size c.before.before.loop.i _ 72 s.args.b.now c.before.loop-test.true s.requires.1
+    part_size c.before.before.loop.i _ 72 s.args.b.now c.before.loop-test.true s.requires.1
 
 returns : tie.Need-returns invariant-loop decreases-loop
 returns c = let at = c.before.before.before.before.loop in
     let a = c.before.before.before.before.before.before.args in
-    test-stop buffer_fits 72 at.i a.b.now _ at.invariant.1 c.before.buffer-fits.ensures a.n c.before.before.before.loop-test.true (not-true _ c.if1.true)
+    test_stop buffer_fits 72 at.i a.b.now _ at.invariant.1 c.before.buffer_fits_lem.ensures a.n c.before.before.before.loop-test.true (not-true _ c.if1.true)
 
 add-i : tie.Need-overflow-add-i invariant-loop decreases-loop
 add-i c = search rules
@@ -53,7 +53,7 @@ loop-less c = search rules
 loop-again : tie.Need-loop-preserved invariant-loop decreases-loop
 loop-again c = let at = c.before.before.before.before.loop in
     let a = c.before.before.before.before.before.before.args in
-    (omega arith, test-turn buffer_fits 72 at.i a.b.now _ at.invariant.1 c.before.buffer-fits.ensures (not-false _ c.if1.false))
+    (omega arith, test_turn buffer_fits 72 at.i a.b.now _ at.invariant.1 c.before.buffer_fits_lem.ensures (not-false _ c.if1.false))
 
 returns-2 : tie.Need-returns-2 invariant-loop decreases-loop
 returns-2 c = let a = c.before.before.before.args in

@@ -1,4 +1,4 @@
-use Rattle.area_check.proofs.Ties.{clash-first, clash-second, clash-both}
+use Rattle.area_check.proofs.Ties.{clash_first, clash_second, clash_both}
 use mathlib.Core.Path.{sym, ◌∙◌}
 use borrow.Author.Tests.{not-true, not-false}
 use borrow.Author.Rules.{rules}
@@ -13,7 +13,7 @@ is-held-requires c κs = search rules
 
 returns : tie.Need-returns
 returns c = let a = c.before.before.before.before.before.args in
-    clash-first a.x.now a.y.now (sym c.before.is_held_lem.ensures ∙ not-true _ c.if1.true)
+    clash_first a.x.now a.y.now (sym c.before.is_held_lem.ensures ∙ not-true _ c.if1.true)
 
 shared-slice-read-is-held-2 : tie.Need-shared-slice-read-is-held-2
 shared-slice-read-is-held-2 c = search rules
@@ -23,14 +23,14 @@ is-held-requires-2 c κs = search rules
 
 returns-2 : tie.Need-returns-2
 returns-2 c = let a = c.before.before.before.before.before.before.before.before.args in
-    clash-second a.x.now a.y.now (sym c.before.is-held2.ensures ∙ not-true _ c.if2.true)
+    clash_second a.x.now a.y.now (sym c.before.is-held2.ensures ∙ not-true _ c.if2.true)
 
 same-key-requires : tie.Need-same-key-requires
 same-key-requires c κs = search rules
 
 returns-3 : tie.Need-returns-3
 returns-3 c = let a = c.before.before.before.before.before.before.before.before.before.before.args in
-    rw (sym c.before.same_key.ensures ∙ c.if3.true) at (clash-both a.x.now a.y.now (sym c.before.before.before.before.before.before.is_held_lem.ensures ∙ not-false _ c.before.before.before.before.before.if1.false) (sym c.before.before.before.is-held2.ensures ∙ not-false _ c.before.before.if2.false))
+    rw (sym c.before.same_key.ensures ∙ c.if3.true) at (clash_both a.x.now a.y.now (sym c.before.before.before.before.before.before.is_held_lem.ensures ∙ not-false _ c.before.before.before.before.before.if1.false) (sym c.before.before.before.is-held2.ensures ∙ not-false _ c.before.before.if2.false))
 
 shared-slice-read-same-place : tie.Need-shared-slice-read-same-place
 shared-slice-read-same-place c = search rules
@@ -49,7 +49,7 @@ same-place-requires c κs = search rules
 
 returns-4 : tie.Need-returns-4
 returns-4 c = let a = c.before.before.before.before.before.before.before.before.before.before.before.before.before.before.before.args in
-    c.same_place.ensures ∙ rw (sym c.before.before.before.before.before.before.same_key.ensures ∙ c.before.before.before.before.before.if3.false) at (clash-both a.x.now a.y.now (sym c.before.before.before.before.before.before.before.before.before.before.before.is_held_lem.ensures ∙ not-false _ c.before.before.before.before.before.before.before.before.before.before.if1.false) (sym c.before.before.before.before.before.before.before.before.is-held2.ensures ∙ not-false _ c.before.before.before.before.before.before.before.if2.false))
+    c.same_place.ensures ∙ rw (sym c.before.before.before.before.before.before.same_key.ensures ∙ c.before.before.before.before.before.if3.false) at (clash_both a.x.now a.y.now (sym c.before.before.before.before.before.before.before.before.before.before.before.is_held_lem.ensures ∙ not-false _ c.before.before.before.before.before.before.before.before.before.before.if1.false) (sym c.before.before.before.before.before.before.before.before.is-held2.ensures ∙ not-false _ c.before.before.before.before.before.before.before.if2.false))
 
 pub clash-spec : {M : Type 1} → statement M
 clash-spec =

@@ -1,5 +1,5 @@
 use borrow.Author.Rules.{rules}
-use Rattle.area_check.proofs.Rows.{test-turn, test-stop, part-size}
+use Rattle.area_check.proofs.Rows.{test_turn, test_stop, part_size}
 use Rattle.area_check.specs.Rows.{every}
 use Rattle.area_check.specs.Read.{filled_by}
 use mathlib.Core.Path.{◌≡◌, refl, sym, ap, ◌∙◌}
@@ -37,12 +37,12 @@ part-filled-by-end c = search rules
 
 filled-by-requires : tie.Need-filled-by-requires invariant-loop decreases-loop
 filled-by-requires c κs = let s = c.before.before.before.before in
-    part-size c.before.before.loop.i _ 72 s.args.b.now c.before.loop-test.true s.requires.1
+    part_size c.before.before.loop.i _ 72 s.args.b.now c.before.loop-test.true s.requires.1
 
 returns : tie.Need-returns invariant-loop decreases-loop
 returns c = let at = c.before.before.before.before.loop in
     let a = c.before.before.before.before.before.before.args in
-    test-stop (filled_by a.lane) 72 at.i a.b.now _ at.invariant.1 c.before.filled-by.ensures a.n c.before.before.before.loop-test.true (not-true _ c.if1.true)
+    test_stop (filled_by a.lane) 72 at.i a.b.now _ at.invariant.1 c.before.filled-by.ensures a.n c.before.before.before.loop-test.true (not-true _ c.if1.true)
 
 add-i : tie.Need-overflow-add-i invariant-loop decreases-loop
 add-i c = search rules
@@ -53,7 +53,7 @@ loop-less c = search rules
 loop-again : tie.Need-loop-preserved invariant-loop decreases-loop
 loop-again c = let at = c.before.before.before.before.loop in
     let a = c.before.before.before.before.before.before.args in
-    (omega arith, test-turn (filled_by a.lane) 72 at.i a.b.now _ at.invariant.1 c.before.filled-by.ensures (not-false _ c.if1.false))
+    (omega arith, test_turn (filled_by a.lane) 72 at.i a.b.now _ at.invariant.1 c.before.filled-by.ensures (not-false _ c.if1.false))
 
 returns-2 : tie.Need-returns-2 invariant-loop decreases-loop
 returns-2 c = let a = c.before.before.before.args in

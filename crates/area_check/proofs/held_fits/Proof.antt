@@ -13,7 +13,7 @@ result-fits-requires-2 : tie.Need-result-fits-requires-2
 result-fits-requires-2 c κs = search rules
 
 returns : tie.Need-returns
-returns c = rw (c.start-length.ensures, c.before.match.keys1)
+returns c = rw (c.start_length_lem.ensures, c.before.match.keys1)
 
 returns-2 : tie.Need-returns-2
 returns-2 c = rw (c.result_fits.ensures, c.before.match.keys2)

@@ -1,4 +1,4 @@
-use Rattle.area_check.proofs.Sized.{sized-to}
+use Rattle.area_check.proofs.Sized.{sized_to}
 use Rattle.area_check.specs.Read.{accepts}
 use mathlib.Core.Path.{sym, ◌∙◌}
 use borrow.Author.Rules.{rules}
@@ -9,7 +9,7 @@ is-sized-requires : tie.Need-is-sized-requires
 is-sized-requires c κs = search rules
 
 rows-fit-requires : tie.Need-rows-fit-requires
-rows-fit-requires c κs = let z = sized-to _ (sym c.before.is-sized.ensures ∙ c.if1.true) in
+rows-fit-requires c κs = let z = sized_to _ (sym c.before.is-sized.ensures ∙ c.if1.true) in
     (z.head, z.seven, z.two, z.four, z.whole)
 
 returns : tie.Need-returns

@@ -1,4 +1,4 @@
-use Rattle.area_check.proofs.Parts.{type-control}
+use Rattle.area_check.proofs.Parts.{type_control}
 use mathlib.Core.Bool.{and-true}
 use mathlib.Core.Path.{sym}
 use borrow.Author.Tests.{ne_eqb}
@@ -19,7 +19,7 @@ returns-2 : tie.Need-returns-2
 returns-2 c = rw (c.either2.ensures, c.before.match.keys2) (sym (and-true _))
 
 returns-3 : tie.Need-returns-3
-returns-3 c = rw c.match.keys3 (type-control c.before.args.t)
+returns-3 c = rw c.match.keys3 (type_control c.before.args.t)
 
 returns-4 : tie.Need-returns-4
 returns-4 c = simp (ne_eqb _ _ c.match.rest.1, ne_eqb _ _ c.match.rest.0.1, ne_eqb _ _ c.match.rest.0.0.1)

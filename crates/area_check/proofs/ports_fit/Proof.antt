@@ -1,5 +1,5 @@
 use borrow.Author.Rules.{rules}
-use Rattle.area_check.proofs.Rows.{test-turn, test-stop}
+use Rattle.area_check.proofs.Rows.{test_turn, test_stop}
 use Rattle.area_check.specs.Rows.{every}
 use Rattle.area_check.specs.Read.{port_fits}
 use mathlib.Core.Path.{◌≡◌, refl, sym, ap, ◌∙◌}
@@ -41,7 +41,7 @@ port-fits-requires c κs = search rules
 returns : tie.Need-returns invariant-loop decreases-loop
 returns c = let at = c.before.before.before.before.loop in
     let a = c.before.before.before.before.before.before.args in
-    test-stop (port_fits a.configured) 4 at.i a.b.now _ at.invariant.1 c.before.port-fits.ensures a.n c.before.before.before.loop-test.true (not-true _ c.if1.true)
+    test_stop (port_fits a.configured) 4 at.i a.b.now _ at.invariant.1 c.before.port-fits.ensures a.n c.before.before.before.loop-test.true (not-true _ c.if1.true)
 
 add-i : tie.Need-overflow-add-i invariant-loop decreases-loop
 add-i c = search rules
@@ -52,7 +52,7 @@ loop-less c = search rules
 loop-again : tie.Need-loop-preserved invariant-loop decreases-loop
 loop-again c = let at = c.before.before.before.before.loop in
     let a = c.before.before.before.before.before.before.args in
-    (omega arith, test-turn (port_fits a.configured) 4 at.i a.b.now _ at.invariant.1 c.before.port-fits.ensures (not-false _ c.if1.false))
+    (omega arith, test_turn (port_fits a.configured) 4 at.i a.b.now _ at.invariant.1 c.before.port-fits.ensures (not-false _ c.if1.false))
 
 returns-2 : tie.Need-returns-2 invariant-loop decreases-loop
 returns-2 c = let a = c.before.before.before.args in

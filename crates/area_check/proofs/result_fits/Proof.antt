@@ -1,4 +1,4 @@
-use Rattle.area_check.proofs.Parts.{none-long}
+use Rattle.area_check.proofs.Parts.{none_long}
 use Rattle.buffer.specs.Lengths.{result_length}
 use mathlib.Core.Bool.{and-true}
 use borrow.Author.Tests.{ne_eqb}
@@ -7,19 +7,19 @@ use Rattle.area_check.proofs.result_fits.Tie as tie
 
 returns : tie.Need-returns
 unfolding result_length
-returns c = rw (c.match.keys1, none-long)
+returns c = rw (c.match.keys1, none_long)
 
 returns-2 : tie.Need-returns-2
 unfolding result_length
-returns-2 c = rw (c.match.keys2, none-long)
+returns-2 c = rw (c.match.keys2, none_long)
 
 returns-3 : tie.Need-returns-3
 unfolding result_length
-returns-3 c = rw (c.match.keys3, none-long)
+returns-3 c = rw (c.match.keys3, none_long)
 
 returns-4 : tie.Need-returns-4
 unfolding result_length
-returns-4 c = rw (c.match.keys4, none-long)
+returns-4 c = rw (c.match.keys4, none_long)
 
 returns-5 : tie.Need-returns-5
 unfolding result_length

@@ -1,4 +1,4 @@
-use Rattle.area_check.proofs.Sized.{rows-not, rows_end}
+use Rattle.area_check.proofs.Sized.{rows_not, rows_end}
 use borrow.Author.Tests.{not-true, not-false}
 use borrow.Author.Rules.{rules}
 use Rattle.area_check.proofs.rows_fit.Statement.{statement}
@@ -50,7 +50,7 @@ ports-fit-requires : tie.Need-ports-fit-requires
 ports-fit-requires c κs = search rules
 
 returns : tie.Need-returns
-returns c = rows-not c.before.before.before.before.before.before.before.before.before.args.area.now _ c.before.ports-fit.ensures (not-true _ c.if1.true)
+returns c = rows_not c.before.before.before.before.before.before.before.before.before.args.area.now _ c.before.ports-fit.ensures (not-true _ c.if1.true)
 
 sub-buffers-agree : tie.Need-overflow-sub-buffers-agree
 sub-buffers-agree c = search rules

@@ -1,4 +1,4 @@
-use Rattle.area_check.proofs.Parts.{state-none}
+use Rattle.area_check.proofs.Parts.{state_none}
 use borrow.Author.Rules.{rules}
 use Rattle.area_check.proofs.state_fits.Statement.{statement}
 use Rattle.area_check.proofs.state_fits.Tie as tie
@@ -53,7 +53,7 @@ returns-8 c = rw (c.within8.ensures, c.before.match.keys8)
 
 returns-9 : tie.Need-returns-9
 returns-9 c = let r = c.match.rest in
-    state-none _ _ c.before.args.v c.before.args.t r.0.0.0.0.0.0.0.1 r.0.0.0.0.0.0.1 r.0.0.0.0.0.1 r.0.0.0.0.1 r.0.0.0.1 r.0.0.1 r.0.1 r.1
+    state_none _ _ c.before.args.v c.before.args.t r.0.0.0.0.0.0.0.1 r.0.0.0.0.0.0.1 r.0.0.0.0.0.1 r.0.0.0.0.1 r.0.0.0.1 r.0.0.1 r.0.1 r.1
 
 pub state-fits-spec : {M : Type 1} → statement M
 state-fits-spec =

@@ -1,10 +1,10 @@
-use Rattle.area_parts.proofs.Got.{head-none, head-some}
+use Rattle.area_parts.proofs.Got.{head_none, head_some}
 use borrow.Author.Rules.{rules}
 use Rattle.area_parts.proofs.head_at.Statement.{statement}
 use Rattle.area_parts.proofs.head_at.Tie as tie
 
 returns : tie.Need-returns
-returns c = head-none _ c.if1.true
+returns c = head_none _ c.if1.true
 
 shared-slice-read-t8 : tie.Need-shared-slice-read-t8
 shared-slice-read-t8 c = search rules
@@ -25,7 +25,7 @@ low-of-requires : tie.Need-low-of-requires
 low-of-requires c κs = search rules
 
 returns-2 : tie.Need-returns-2
-returns-2 c = head-some _ c.before.before.before.before.before.before.if1.false _ c.low-of.ensures
+returns-2 c = head_some _ c.before.before.before.before.before.before.if1.false _ c.low_of_lem.ensures
 
 pub head-at-spec : {M : Type 1} → statement M
 head-at-spec =

@@ -1,5 +1,5 @@
 use Rattle.area_parts.specs.Parts.{rank_over}
-use Rattle.area_parts.proofs.Storing.{rank-pending}
+use Rattle.area_parts.proofs.Storing.{rank_pending}
 use borrow.Author.Rules.{rules}
 use Rattle.area_parts.proofs.rerank.Statement.{statement}
 use Rattle.area_parts.proofs.rerank.Tie as tie
@@ -34,7 +34,7 @@ same_length c = search rules
 
 returns-2 : tie.Need-returns-2
 returns-2 c =
-    rank-pending _ _ _ _ _
+    rank_pending _ _ _ _ _
     c.before.before.before.before.before.before.before.before.before.slot.given.1
     c.before.before.before.before.rank-of.ensures
     c.before.before.before.before.before.before.buffer-at.ensures

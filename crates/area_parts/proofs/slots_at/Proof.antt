@@ -1,4 +1,4 @@
-use Rattle.area_parts.proofs.Got.{slots-all}
+use Rattle.area_parts.proofs.Got.{slots_all}
 use borrow.Author.Rules.{rules}
 use Rattle.area_parts.proofs.slots_at.Statement.{statement}
 use Rattle.area_parts.proofs.slots_at.Tie as tie
@@ -17,7 +17,7 @@ slot-at-requires-4 c κs = search rules
 
 returns : tie.Need-returns
 returns c =
-    slots-all _ _ _ _ _ _ c.before.before.before.slot_at.ensures c.before.before.slot-at2.ensures c.before.slot-at3.ensures c.slot-at4.ensures
+    slots_all _ _ _ _ _ _ c.before.before.before.slot_at.ensures c.before.before.slot-at2.ensures c.before.slot-at3.ensures c.slot-at4.ensures
 
 pub slots-at-spec : {M : Type 1} → statement M
 slots-at-spec =

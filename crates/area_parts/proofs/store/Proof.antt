@@ -1,4 +1,4 @@
-use Rattle.area_parts.proofs.Storing.{store-all}
+use Rattle.area_parts.proofs.Storing.{store_all}
 use borrow.Author.Rules.{rules}
 use Rattle.area_parts.proofs.store.Statement.{statement}
 use Rattle.area_parts.proofs.store.Tie as tie
@@ -43,7 +43,7 @@ returns : tie.Need-returns
 returns c =
     let third = c.before.before.before.before.before.before.before.before.before.before.before.before.before in
     let second = third.before.before.before.before.before in
-    store-all _ _ _ _ _ _
+    store_all _ _ _ _ _ _
     second.before.before.before.before.before.rerank.ensures
     second.rerank2.ensures
     third.rerank3.ensures

@@ -1,4 +1,4 @@
-use Rattle.call_bytes.proofs.Reading.{number_at, number-none}
+use Rattle.call_bytes.proofs.Reading.{number_at, number_none}
 use native.Mathlib.Omega.{arith}
 use mathlib.Core.Path.{sym, ◌∙◌}
 use borrow.Author.Rules.{rules}
@@ -18,7 +18,7 @@ returns : tie.Need-returns
 returns c = c.word_at.ensures ∙ sym (number_at _ 1 _ _ c.before.if1.true)
 
 returns-2 : tie.Need-returns-2
-returns-2 c = sym (number-none _ 1 _ _ (omega arith))
+returns-2 c = sym (number_none _ 1 _ _ (omega arith))
 
 pub number-spec : {M : Type 1} → statement M
 number-spec = tie.close (tie.spec mul-word-at add-word-at word-at-requires returns returns-2)

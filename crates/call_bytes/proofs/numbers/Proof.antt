@@ -25,14 +25,14 @@ number-requires-7 c κs = search rules
 
 returns : tie.Need-returns
 returns c =
-    let at-number = c.before in
-    let at-number' = at-number.before in
+    let at_number = c.before in
+    let at-number' = at_number.before in
     let at-number'' = at-number'.before in
     let at-number''' = at-number''.before in
     let at-number'''' = at-number'''.before in
     let at-number''''' = at-number''''.before in
     rw
-    (at-number'''''.number.ensures, at-number''''.number2.ensures, at-number'''.number3.ensures, at-number''.number4.ensures, at-number'.number5.ensures, at-number.number6.ensures, c.number7.ensures)
+    (at-number'''''.number.ensures, at-number''''.number2.ensures, at-number'''.number3.ensures, at-number''.number4.ensures, at-number'.number5.ensures, at_number.number6.ensures, c.number7.ensures)
 
 pub numbers-spec : {M : Type 1} → statement M
 numbers-spec =

@@ -1,4 +1,4 @@
-use Rattle.call_bytes.proofs.Reading.{read-empty, read-unknown, read_short, read_whole}
+use Rattle.call_bytes.proofs.Reading.{read_empty, read_unknown, read_short, read_whole}
 use native.Mathlib.Omega.{arith}
 use borrow.Author.Tests.{not-true, not-false}
 use borrow.Author.Rules.{rules}
@@ -9,7 +9,7 @@ no-record-requires : tie.Need-no-record-requires
 no-record-requires c κs = search rules
 
 returns : tie.Need-returns
-returns c = read-empty _ _ c.before.if1.true c.no_record.ensures
+returns c = read_empty _ _ c.before.if1.true c.no_record.ensures
 
 shared-slice-read-kind-of : tie.Need-shared-slice-read-kind-of
 shared-slice-read-kind-of c = search rules
@@ -31,7 +31,7 @@ returns-2 c =
     let at-if = c.before in
     let at-is-known = at-if.before in
     let at-kind-of = at-is-known.before.before in
-    read-unknown _ _ _ at-kind-of.kind-of.ensures at-is-known.is_Known.ensures _ c.no-record2.ensures
+    read_unknown _ _ _ at-kind-of.kind-of.ensures at-is-known.is_Known.ensures _ c.no-record2.ensures
     (not-true _ at-if.if2.true)
 
 no-record-requires-3 : tie.Need-no-record-requires-3

@@ -1,4 +1,4 @@
-use Rattle.call_bytes.proofs.Reading.{numbers_fit, recorded-is}
+use Rattle.call_bytes.proofs.Reading.{numbers_fit, recorded_is}
 use native.Mathlib.Omega.{arith}
 use borrow.Author.Rules.{rules}
 use Rattle.call_bytes.proofs.recorded_as.Statement.{statement}
@@ -19,7 +19,7 @@ returns : tie.Need-returns
 returns c =
     let at-numbers-of = c.before in
     let start = at-numbers-of.before.before in
-    recorded-is start.args.kind start.args.s.now _ _ _ _ at-numbers-of.numbers_of.ensures.0 c.numbers.ensures
+    recorded_is start.args.kind start.args.s.now _ _ _ _ at-numbers-of.numbers_of.ensures.0 c.numbers.ensures
     start.requires.0 start.requires.1.0
 
 pub recorded-as-spec : {M : Type 1} → statement M

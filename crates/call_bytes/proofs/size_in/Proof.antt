@@ -1,7 +1,7 @@
 use Prim.Native.Nat.{ℕ, ◌+◌, ◌*◌}
 use native.Mathlib.Omega.{arith}
 use mathlib.Core.Path.{ap}
-use Rattle.call_bytes.proofs.Reading.{size-bytes}
+use Rattle.call_bytes.proofs.Reading.{size_bytes}
 use borrow.Author.Rules.{rules}
 use Rattle.call_bytes.proofs.size_in.Statement.{statement}
 use Rattle.call_bytes.proofs.size_in.Tie as tie
@@ -30,7 +30,7 @@ cast-result c = search rules
 returns : tie.Need-returns
 returns c =
     let a = c.before.before.before.before.before.args in (
-      size-bytes a.kind a.s.now _ _ _ c.before.before.before.has-bytes.ensures c.before.before.if1.true
+      size_bytes a.kind a.s.now _ _ _ c.before.before.before.has-bytes.ensures c.before.before.if1.true
           (ap (λ (n : ℕ). 1 + 4 * n) c.before.numbers_of.ensures.0) c.half_at.ensures.0,
       omega arith,
     )

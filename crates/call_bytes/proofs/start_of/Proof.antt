@@ -1,4 +1,4 @@
-use Rattle.call_bytes.proofs.Reading.{start-bytes, start_none}
+use Rattle.call_bytes.proofs.Reading.{start_bytes_lem, start_none}
 use native.Mathlib.Omega.{arith}
 use borrow.Author.Rules.{rules}
 use Rattle.call_bytes.proofs.start_of.Statement.{statement}
@@ -24,7 +24,7 @@ returns c =
     let at-has-bytes = c.before in
     let at-numbers-of = at-has-bytes.before in
     let start = at-numbers-of.before in
-    (start-bytes start.args.kind _ _ at-numbers-of.numbers_of.ensures.0 at-has-bytes.has-bytes.ensures c.if1.true, omega arith)
+    (start_bytes_lem start.args.kind _ _ at-numbers-of.numbers_of.ensures.0 at-has-bytes.has-bytes.ensures c.if1.true, omega arith)
 
 returns-2 : tie.Need-returns-2
 returns-2 c =

@@ -19,14 +19,14 @@ returns c =
       error = refl;
       unconfigured = refl;
       refused = refl;
-      second-reset = refl;
+      second_reset = refl;
       resumed = refl;
       resuming = refl;
-      reset-within = refl;
+      reset_within = refl;
       no_power = refl;
-      power-again = refl;
-      configured-anew = refl;
-      bus-reset = refl;
+      power_again = refl;
+      configured_anew = refl;
+      bus_reset_lem = refl;
     }
 
 pub engine-cases-spec : {M : Type 1} → statement M

@@ -1,6 +1,6 @@
 use mathlib.Core.Path.{ap}
 use Rattle.port.specs.declared.Port.{Port}
-use Rattle.chart.proofs.Places.{line-again}
+use Rattle.chart.proofs.Places.{line_again}
 use borrow.Author.Rules.{rules}
 use Rattle.chart.proofs.port_at.Statement.{statement}
 use Rattle.chart.proofs.port_at.Tie as tie
@@ -13,7 +13,7 @@ new-requires c κs = search rules
 
 returns : tie.Need-returns
 returns c =
-    (rw c.before.before.state-at.ensures (line-again c.before.before.before.args.line), ap (λ (p : Port). p.changes) c.before.new.ensures)
+    (rw c.before.before.state-at.ensures (line_again c.before.before.before.args.line), ap (λ (p : Port). p.changes) c.before.new.ensures)
 
 pub port-at-spec : {M : Type 1} → statement M
 port-at-spec = tie.close (tie.spec state-at-requires new-requires returns)

@@ -27,7 +27,7 @@ cast-t12 : tie.Need-overflow-cast-t12
 cast-t12 c = search rules
 
 returns : tie.Need-returns
-returns c = rw (c.bits-after.ensures, c.before.state-of.ensures, c.before.before.ticks-after.ensures, c.before.before.before.column.ensures.0, c.before.before.before.before.speed-of.ensures)
+returns c = rw (c.bits-after.ensures, c.before.state_of_lem.ensures, c.before.before.ticks-after.ensures, c.before.before.before.column.ensures.0, c.before.before.before.before.speed-of.ensures)
 
 pub read_spec : {M : Type 1} → statement M
 read_spec =

@@ -1,4 +1,4 @@
-use Rattle.grimholdi.proofs.Completing.{complete-refused, nowhere, on-empty, on-pending, on-ready, on-old}
+use Rattle.grimholdi.proofs.Completing.{complete_refused, nowhere, on_empty, on_pending, on_ready, on_old}
 use borrow.Author.Rules.{rules}
 use Rattle.grimholdi.proofs.complete_split.Statement.{statement}
 use Rattle.grimholdi.proofs.complete_split.Tie as tie
@@ -22,7 +22,7 @@ returns : tie.Need-returns
 returns c =
     let f = c.before.before in
     let s = f.before.before.before.before.before.before in
-    complete-refused _ s.requires _ f.before.head_at.ensures _ _ _ _ f.before.before.before.key-named.ensures _ f.first-refusal.ensures c.before.if1.true _
+    complete_refused _ s.requires _ f.before.head_at.ensures _ _ _ _ f.before.before.before.key_named_lem.ensures _ f.first-refusal.ensures c.before.if1.true _
     c.plain-answer.ensures
 
 slots-at-requires : tie.Need-slots-at-requires
@@ -81,7 +81,7 @@ returns-2 c =
     let f = c.before.before.before in
     let k = f.before.before.before.before in
     let s = k.before.before.before.before.before.before.before in
-    nowhere _ s.requires _ k.before.before.head_at.ensures _ _ _ _ k.before.before.before.before.key-named.ensures _ k.before.first-refusal.ensures
+    nowhere _ s.requires _ k.before.before.head_at.ensures _ _ _ _ k.before.before.before.before.key_named_lem.ensures _ k.before.first-refusal.ensures
     k.if1.false _ f.before.before.slots_at.ensures _ f.before.key_of.ensures f.holder.ensures c.before.enum_told.given.1 _ c.uncompleted.ensures
 
 same-length-3 : tie.Need-same-length-3
@@ -93,7 +93,7 @@ returns-3 c =
     let f = b.before.before.before.before.before in
     let k = f.before.before.before.before in
     let s = k.before.before.before.before.before.before.before in
-    on-empty _ s.requires _ k.before.before.head_at.ensures _ _ _ _ k.before.before.before.before.key-named.ensures _ k.before.first-refusal.ensures
+    on_empty _ s.requires _ k.before.before.head_at.ensures _ _ _ _ k.before.before.before.before.key_named_lem.ensures _ k.before.first-refusal.ensures
     k.if1.false _ f.before.before.slots_at.ensures _ f.before.key_of.ensures f.holder.ensures b.before.before.before.n.given.1 _ b.buffer-at.ensures c.before.enum-told2.given.1 _ c.uncompleted2.ensures
 
 same-length-4 : tie.Need-same-length-4
@@ -105,7 +105,7 @@ returns-4 c =
     let f = b.before.before.before.before.before in
     let k = f.before.before.before.before in
     let s = k.before.before.before.before.before.before.before in
-    on-pending _ s.requires _ k.before.before.head_at.ensures _ _ _ _ k.before.before.before.before.key-named.ensures _ k.before.first-refusal.ensures
+    on_pending _ s.requires _ k.before.before.head_at.ensures _ _ _ _ k.before.before.before.before.key_named_lem.ensures _ k.before.first-refusal.ensures
     k.if1.false _ f.before.before.slots_at.ensures _ f.before.key_of.ensures f.holder.ensures b.before.before.before.n.given.1 _ b.buffer-at.ensures c.before.enum-told3.given.1 _ c.uncompleted3.ensures
 
 same-length-5 : tie.Need-same-length-5
@@ -121,7 +121,7 @@ returns-5 c =
     let f = b.before.before.before.before.before in
     let k = f.before.before.before.before in
     let s = k.before.before.before.before.before.before.before in
-    on-ready _ s.requires _ k.before.before.head_at.ensures _ _ _ _ k.before.before.before.before.key-named.ensures _ k.before.first-refusal.ensures
+    on_ready _ s.requires _ k.before.before.head_at.ensures _ _ _ _ k.before.before.before.before.key_named_lem.ensures _ k.before.first-refusal.ensures
     k.if1.false _ f.before.before.slots_at.ensures _ f.before.key_of.ensures f.holder.ensures b.before.before.before.n.given.1 _ b.buffer-at.ensures w.before.before.before.slot.given.1 _ _ _ w.put-old.ensures
     c.before.before.give-result.ensures
 
@@ -138,7 +138,7 @@ returns-6 c =
     let f = b.before.before.before.before.before in
     let k = f.before.before.before.before in
     let s = k.before.before.before.before.before.before.before in
-    on-old _ s.requires _ k.before.before.head_at.ensures _ _ _ _ k.before.before.before.before.key-named.ensures _ k.before.first-refusal.ensures
+    on_old _ s.requires _ k.before.before.head_at.ensures _ _ _ _ k.before.before.before.before.key_named_lem.ensures _ k.before.first-refusal.ensures
     k.if1.false _ f.before.before.slots_at.ensures _ f.before.key_of.ensures f.holder.ensures b.before.before.before.n.given.1 _ b.buffer-at.ensures w.slot2.given.1 _ _ c.before.before.give-result2.ensures
 
 pub complete-split-spec : {M : Type 1} → statement M

@@ -1,4 +1,4 @@
-use Rattle.grimholdi.proofs.Delivering.{deliver-refused, idle, on-empty, on-ready, on-old, unsuited, suited, abandoned}
+use Rattle.grimholdi.proofs.Delivering.{deliver_refused, idle, on_empty, on_ready, on_old, unsuited, suited, abandoned}
 use mathlib.Core.Path.{◌∙◌}
 use borrow.Author.Rules.{rules}
 use Rattle.grimholdi.proofs.deliver.Statement.{statement}
@@ -33,8 +33,8 @@ returns c =
     let f = c.before.before in
     let q = f.before.before.before in
     let s = f.before.before.before.before.before.before.before.before.before in
-    deliver-refused _ s.requires _ f.before.head_at.ensures _ _ _ f.before.before.before.before.before.before.result-of.ensures
-    (q.both.ensures ∙ rw (q.before.before.is-result.ensures, q.before.carries.ensures)) f.first-refusal.ensures c.before.if1.true _
+    deliver_refused _ s.requires _ f.before.head_at.ensures _ _ _ f.before.before.before.before.before.before.result-of.ensures
+    (q.both.ensures ∙ rw (q.before.before.is_result_lem.ensures, q.before.carries.ensures)) f.first-refusal.ensures c.before.if1.true _
     c.plain-answer.ensures
 
 enum_told : tie.Need-enum-told
@@ -78,7 +78,7 @@ returns-2 c =
     let q = k.before.before.before.before in
     let s = q.before.before.before.before.before.before in
     suited _ s.requires _ k.before.before.head_at.ensures _ _ _ q.before.before.before.result-of.ensures
-    (q.both.ensures ∙ rw (q.before.before.is-result.ensures, q.before.carries.ensures)) k.before.first-refusal.ensures
+    (q.both.ensures ∙ rw (q.before.before.is_result_lem.ensures, q.before.carries.ensures)) k.before.first-refusal.ensures
     k.if1.false b.before.before.before.low.given.1 _ b.slot_at.ensures w.before.before.before.before.before.slot.given.1 w.before.before.before.suits.ensures w.before.before.if2.true _ _
     c.delivered3.ensures w.put-result.ensures
 
@@ -115,7 +115,7 @@ returns-3 c =
     let q = k.before.before.before.before in
     let s = k.before.before.before.before.before.before.before.before.before.before in
     idle _ s.requires _ k.before.before.head_at.ensures _ _ _ k.before.before.before.before.before.before.before.result-of.ensures
-    (q.both.ensures ∙ rw (q.before.before.is-result.ensures, q.before.carries.ensures)) k.before.first-refusal.ensures
+    (q.both.ensures ∙ rw (q.before.before.is_result_lem.ensures, q.before.carries.ensures)) k.before.first-refusal.ensures
     k.if1.false c.before.enum_told.given.1 _ c.delivered.ensures
 
 same-length-4 : tie.Need-same-length-4
@@ -127,8 +127,8 @@ returns-4 c =
     let k = b.before.before.before.before.before in
     let q = k.before.before.before.before in
     let s = q.before.before.before.before.before.before in
-    on-empty _ s.requires _ k.before.before.head_at.ensures _ _ _ q.before.before.before.result-of.ensures
-    (q.both.ensures ∙ rw (q.before.before.is-result.ensures, q.before.carries.ensures)) k.before.first-refusal.ensures
+    on_empty _ s.requires _ k.before.before.head_at.ensures _ _ _ q.before.before.before.result-of.ensures
+    (q.both.ensures ∙ rw (q.before.before.is_result_lem.ensures, q.before.carries.ensures)) k.before.first-refusal.ensures
     k.if1.false b.before.before.before.low.given.1 _ b.slot_at.ensures c.before.enum-told2.given.1 _ c.delivered2.ensures
 
 same-length-5 : tie.Need-same-length-5
@@ -141,7 +141,7 @@ returns-5 c =
     let q = k.before.before.before.before in
     let s = q.before.before.before.before.before.before in
     unsuited _ s.requires _ k.before.before.head_at.ensures _ _ _ q.before.before.before.result-of.ensures
-    (q.both.ensures ∙ rw (q.before.before.is-result.ensures, q.before.carries.ensures)) k.before.first-refusal.ensures
+    (q.both.ensures ∙ rw (q.before.before.is_result_lem.ensures, q.before.carries.ensures)) k.before.first-refusal.ensures
     k.if1.false b.before.before.before.low.given.1 _ b.slot_at.ensures c.before.before.before.before.slot.given.1 c.before.before.suits.ensures c.before.if2.false _
     c.delivered4.ensures
 
@@ -154,8 +154,8 @@ returns-6 c =
     let k = b.before.before.before.before.before in
     let q = k.before.before.before.before in
     let s = q.before.before.before.before.before.before in
-    on-ready _ s.requires _ k.before.before.head_at.ensures _ _ _ q.before.before.before.result-of.ensures
-    (q.both.ensures ∙ rw (q.before.before.is-result.ensures, q.before.carries.ensures)) k.before.first-refusal.ensures
+    on_ready _ s.requires _ k.before.before.head_at.ensures _ _ _ q.before.before.before.result-of.ensures
+    (q.both.ensures ∙ rw (q.before.before.is_result_lem.ensures, q.before.carries.ensures)) k.before.first-refusal.ensures
     k.if1.false b.before.before.before.low.given.1 _ b.slot_at.ensures c.before.enum-told3.given.1 _ c.delivered5.ensures
 
 same-length-7 : tie.Need-same-length-7
@@ -167,8 +167,8 @@ returns-7 c =
     let k = b.before.before.before.before.before in
     let q = k.before.before.before.before in
     let s = q.before.before.before.before.before.before in
-    on-old _ s.requires _ k.before.before.head_at.ensures _ _ _ q.before.before.before.result-of.ensures
-    (q.both.ensures ∙ rw (q.before.before.is-result.ensures, q.before.carries.ensures)) k.before.first-refusal.ensures
+    on_old _ s.requires _ k.before.before.head_at.ensures _ _ _ q.before.before.before.result-of.ensures
+    (q.both.ensures ∙ rw (q.before.before.is_result_lem.ensures, q.before.carries.ensures)) k.before.first-refusal.ensures
     k.if1.false b.before.before.before.low.given.1 _ b.slot_at.ensures c.before.enum-told4.given.1 _ c.delivered6.ensures
 
 same-length-8 : tie.Need-same-length-8
@@ -180,7 +180,7 @@ returns-8 c =
     let q = k.before.before.before.before in
     let s = k.before.before.before.before.before.before.before.before.before.before in
     abandoned _ s.requires _ k.before.before.head_at.ensures _ _ _ k.before.before.before.before.before.before.before.result-of.ensures
-    (q.both.ensures ∙ rw (q.before.before.is-result.ensures, q.before.carries.ensures)) k.before.first-refusal.ensures
+    (q.both.ensures ∙ rw (q.before.before.is_result_lem.ensures, q.before.carries.ensures)) k.before.first-refusal.ensures
     k.if1.false c.before.before.before.before.before.enum-told5.given.1 _ _ c.delivered7.ensures c.before.before.before.write_low.ensures
 
 pub deliver-spec : {M : Type 1} → statement M

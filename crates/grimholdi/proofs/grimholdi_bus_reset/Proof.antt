@@ -18,8 +18,8 @@ same_length c = search rules
 returns : tie.Need-returns
 returns c =
     let called = c.before.before.before.before in
-    settles _ _ called.before.before.before.read-area.ensures called.before.before.if1.true _ _ called.bus-reset.result
-    called.bus-reset.ensures _ _ c.before.before.settle.ensures
+    settles _ _ called.before.before.before.read-area.ensures called.before.before.if1.true _ _ called.bus_reset_lem.result
+    called.bus_reset_lem.ensures _ _ c.before.before.settle.ensures
 
 plain-answer-requires : tie.Need-plain-answer-requires
 plain-answer-requires c κs = search rules

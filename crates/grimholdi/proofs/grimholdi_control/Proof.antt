@@ -1,5 +1,5 @@
 use borrow.Author.Rules.{rules}
-use Rattle.grimholdi.proofs.Entries.{settles-reply, refuses-reply}
+use Rattle.grimholdi.proofs.Entries.{settles_reply, refuses_reply}
 use Rattle.grimholdi.proofs.grimholdi_control.Statement.{statement}
 use Rattle.grimholdi.proofs.grimholdi_control.Tie as tie
 
@@ -21,7 +21,7 @@ same-length-2 c = search rules
 returns : tie.Need-returns
 returns c =
     let called = c.before.before.before.before.before.before.before in
-    settles-reply _ _ called.before.before.before.read-area.ensures called.before.before.if1.true _ _ called.control.result
+    settles_reply _ _ called.before.before.before.read-area.ensures called.before.before.if1.true _ _ called.control.result
     called.control.ensures _ _ _ c.before.before.before.before.settle-reply.ensures
 
 plain-answer-requires : tie.Need-plain-answer-requires
@@ -31,7 +31,7 @@ same-length-3 : tie.Need-same-length-3
 same-length-3 c = search rules
 
 returns-2 : tie.Need-returns-2
-returns-2 c = refuses-reply _ _ c.before.before.read-area.ensures c.before.if1.false _ _ _ c.plain-answer.ensures
+returns-2 c = refuses_reply _ _ c.before.before.read-area.ensures c.before.if1.false _ _ _ c.plain-answer.ensures
 
 pub grimholdi-control-spec : {M : Type 1} → statement M
 grimholdi-control-spec =

@@ -1,4 +1,4 @@
-use Rattle.grimholdi.proofs.Taken.{turned-away}
+use Rattle.grimholdi.proofs.Taken.{turned_away}
 use mathlib.Core.Path.{sym, ◌∙◌}
 use borrow.Author.Rules.{rules}
 use Rattle.grimholdi.proofs.grimholdi_deliver.Statement.{statement}
@@ -23,7 +23,7 @@ same-length-2 : tie.Need-same-length-2
 same-length-2 c = search rules
 
 returns-2 : tie.Need-returns-2
-returns-2 c = turned-away _ (sym c.before.before.is-area.ensures ∙ c.before.if1.false) _ _ c.plain-answer.ensures
+returns-2 c = turned_away _ (sym c.before.before.is-area.ensures ∙ c.before.if1.false) _ _ c.plain-answer.ensures
 
 pub grimholdi-deliver-spec : {M : Type 1} → statement M
 grimholdi-deliver-spec =

@@ -1,7 +1,7 @@
 use borrow.Author.Rules.{rules}
 use mathlib.Core.Path.{sym, ◌∙◌, ap}
 use Rattle.grimholdi.specs.Outcome.{EntryOutcome}
-use Rattle.grimholdi.proofs.Entries.{bad-numbers, bad-length, made, made-area}
+use Rattle.grimholdi.proofs.Entries.{bad_numbers, bad_length, made, made_area}
 use Rattle.grimholdi.proofs.grimholdi_new.Statement.{statement}
 use Rattle.grimholdi.proofs.grimholdi_new.Tie as tie
 
@@ -13,7 +13,7 @@ plain-answer-requires c κs = search rules
 
 returns : tie.Need-returns
 returns c =
-    let w = bad-numbers _ _ _ _ _ _ _ c.before.before.new.ensures c.before.if1.true in
+    let w = bad_numbers _ _ _ _ _ _ _ c.before.before.new.ensures c.before.if1.true in
     (c.plain-answer.ensures ∙ ap (λ (g : EntryOutcome). g.answer) (sym w), ap (λ (g : EntryOutcome). g.area) (sym w))
 
 area-length-requires : tie.Need-area-length-requires
@@ -24,7 +24,7 @@ plain-answer-requires-2 c κs = search rules
 
 returns-2 : tie.Need-returns-2
 returns-2 c =
-    let w = bad-length _ _ _ _ _ _ _ c.before.before.before.before.new.ensures c.before.before.before.if1.false (λ l. c.before.if2.true (l ∙ sym c.before.before.area-length.ensures)) in
+    let w = bad_length _ _ _ _ _ _ _ c.before.before.before.before.new.ensures c.before.before.before.if1.false (λ l. c.before.if2.true (l ∙ sym c.before.before.area-length.ensures)) in
     (c.plain-answer2.ensures ∙ ap (λ (g : EntryOutcome). g.answer) (sym w), ap (λ (g : EntryOutcome). g.area) (sym w))
 
 write-area-requires : tie.Need-write-area-requires
@@ -41,7 +41,7 @@ returns-3 c =
     let l = c.before.before.before.before.before.before.if2.false ∙ c.before.before.before.before.before.before.before.area-length.ensures in
     let w = made _ _ _ _ _ _ _ c.before.before.before.before.before.before.before.before.before.new.ensures c.before.before.before.before.before.before.before.before.if1.false l in (
       c.plain-answer3.ensures ∙ ap (λ (g : EntryOutcome). g.answer) (sym w),
-      c.before.before.before.write-area.ensures ∙ made-area _ _ _ _ _ _ _ c.before.before.before.before.before.before.before.before.before.new.ensures c.before.before.before.before.before.before.before.before.if1.false l ∙ ap (λ (g : EntryOutcome). g.area) (sym w),
+      c.before.before.before.write-area.ensures ∙ made_area _ _ _ _ _ _ _ c.before.before.before.before.before.before.before.before.before.new.ensures c.before.before.before.before.before.before.before.before.if1.false l ∙ ap (λ (g : EntryOutcome). g.area) (sym w),
     )
 
 pub grimholdi-new-spec : {M : Type 1} → statement M

@@ -1,4 +1,4 @@
-use Rattle.grimholdi.proofs.Entries.{gives-reply, poll-stays, refuses-reply}
+use Rattle.grimholdi.proofs.Entries.{gives_reply, poll_stays, refuses_reply}
 use borrow.Author.Rules.{rules}
 use Rattle.grimholdi.proofs.grimholdi_poll.Statement.{statement}
 use Rattle.grimholdi.proofs.grimholdi_poll.Tie as tie
@@ -18,14 +18,14 @@ same_length c = search rules
 returns : tie.Need-returns
 returns c =
     let called = c.before.before.before.before in
-    gives-reply _ _ called.before.before.before.read-area.ensures called.before.before.if1.true _ _ called.poll.result called.poll.ensures (poll-stays _ _ _) _ _
+    gives_reply _ _ called.before.before.before.read-area.ensures called.before.before.if1.true _ _ called.poll.result called.poll.ensures (poll_stays _ _ _) _ _
     c.before.before.give-reply.ensures
 
 plain-answer-requires : tie.Need-plain-answer-requires
 plain-answer-requires c κs = search rules
 
 returns-2 : tie.Need-returns-2
-returns-2 c = refuses-reply _ _ c.before.before.read-area.ensures c.before.if1.false _ _ _ c.plain-answer.ensures
+returns-2 c = refuses_reply _ _ c.before.before.read-area.ensures c.before.if1.false _ _ _ c.plain-answer.ensures
 
 pub grimholdi-poll-spec : {M : Type 1} → statement M
 grimholdi-poll-spec =

@@ -1,4 +1,4 @@
-use Rattle.grimholdi.proofs.Launching.{launch-refused, running, abandoned, none-pending, on-empty, on-ready, on-old, launches}
+use Rattle.grimholdi.proofs.Launching.{launch_refused, running, abandoned, none_pending, on_empty, on_ready, on_old, launches}
 use borrow.Author.Rules.{rules}
 use Rattle.grimholdi.proofs.launch.Statement.{statement}
 use Rattle.grimholdi.proofs.launch.Tie as tie
@@ -19,7 +19,7 @@ returns : tie.Need-returns
 returns c =
     let f = c.before.before in
     let s = f.before.before.before.before.before in
-    launch-refused _ s.requires _ f.before.head_at.ensures _ f.first-refusal.ensures c.before.if1.true _ c.plain-answer.ensures
+    launch_refused _ s.requires _ f.before.head_at.ensures _ f.first-refusal.ensures c.before.if1.true _ c.plain-answer.ensures
 
 enum_told : tie.Need-enum-told
 enum_told c = search rules
@@ -92,7 +92,7 @@ returns-2 c =
     let e = c.before.before.before in
     let k = e.before.before.before.before.before in
     let s = k.before.before.before.before.before.before in
-    none-pending _ s.requires _ k.before.before.head_at.ensures _ k.before.first-refusal.ensures k.if1.false e.before.before.before.enum_told.given.1 _ e.before.slots_at.ensures e.earliest-of.ensures c.before.enum-told2.given.1 _ c.unlaunched.ensures
+    none_pending _ s.requires _ k.before.before.head_at.ensures _ k.before.first-refusal.ensures k.if1.false e.before.before.before.enum_told.given.1 _ e.before.slots_at.ensures e.earliest-of.ensures c.before.enum-told2.given.1 _ c.unlaunched.ensures
 
 same-length-3 : tie.Need-same-length-3
 same-length-3 c = search rules
@@ -103,7 +103,7 @@ returns-3 c =
     let e = b.before.before.before.before.before in
     let k = e.before.before.before.before.before in
     let s = k.before.before.before.before.before.before in
-    on-empty _ s.requires _ k.before.before.head_at.ensures _ k.before.first-refusal.ensures
+    on_empty _ s.requires _ k.before.before.head_at.ensures _ k.before.first-refusal.ensures
     k.if1.false e.before.before.before.enum_told.given.1 _ e.before.slots_at.ensures e.earliest-of.ensures b.before.before.before.n.given.1 _ b.buffer-at.ensures c.before.enum-told3.given.1 _ c.unlaunched2.ensures
 
 same-length-4 : tie.Need-same-length-4
@@ -132,7 +132,7 @@ returns-5 c =
     let e = b.before.before.before.before.before in
     let k = e.before.before.before.before.before in
     let s = k.before.before.before.before.before.before in
-    on-ready _ s.requires _ k.before.before.head_at.ensures _ k.before.first-refusal.ensures
+    on_ready _ s.requires _ k.before.before.head_at.ensures _ k.before.first-refusal.ensures
     k.if1.false e.before.before.before.enum_told.given.1 _ e.before.slots_at.ensures e.earliest-of.ensures b.before.before.before.n.given.1 _ b.buffer-at.ensures c.before.enum-told4.given.1 _ c.unlaunched3.ensures
 
 same-length-7 : tie.Need-same-length-7
@@ -144,7 +144,7 @@ returns-6 c =
     let e = b.before.before.before.before.before in
     let k = e.before.before.before.before.before in
     let s = k.before.before.before.before.before.before in
-    on-old _ s.requires _ k.before.before.head_at.ensures _ k.before.first-refusal.ensures
+    on_old _ s.requires _ k.before.before.head_at.ensures _ k.before.first-refusal.ensures
     k.if1.false e.before.before.before.enum_told.given.1 _ e.before.slots_at.ensures e.earliest-of.ensures b.before.before.before.n.given.1 _ b.buffer-at.ensures c.before.enum-told5.given.1 _ c.unlaunched4.ensures
 
 same-length-8 : tie.Need-same-length-8

@@ -1,4 +1,4 @@
-use Rattle.grimholdi.proofs.Starting.{start-refused, no_room, limit, held, reused, took}
+use Rattle.grimholdi.proofs.Starting.{start_refused, no_room, limit, held, reused, took}
 use mathlib.Core.Path.{◌∙◌}
 use borrow.Author.Rules.{rules}
 use Rattle.grimholdi.proofs.start_split.Statement.{statement}
@@ -33,8 +33,8 @@ returns c =
     let f = c.before.before in
     let q = f.before.before.before in
     let s = q.before.before.before.before.before.before in
-    start-refused _ s.requires _ f.before.head_at.ensures _ _ _ _ _ _ _ _ _ q.before.before.before.split-of.ensures
-    (q.both.ensures ∙ rw (q.before.before.split-named.ensures, q.before.fits2.ensures)) f.first-refusal.ensures c.before.if1.true _ c.plain-answer.ensures
+    start_refused _ s.requires _ f.before.head_at.ensures _ _ _ _ _ _ _ _ _ q.before.before.before.split-of.ensures
+    (q.both.ensures ∙ rw (q.before.before.split_named_lem.ensures, q.before.fits2.ensures)) f.first-refusal.ensures c.before.if1.true _ c.plain-answer.ensures
 
 slots-at-requires : tie.Need-slots-at-requires
 slots-at-requires c κs = search rules
@@ -91,7 +91,7 @@ returns-2 c =
     let q = k.before.before.before.before in
     let s = q.before.before.before.before.before.before in
     no_room _ s.requires _ k.before.before.head_at.ensures _ _ _ _ _ _ _ _ _ q.before.before.before.split-of.ensures
-    (q.both.ensures ∙ rw (q.before.before.split-named.ensures, q.before.fits2.ensures)) k.before.first-refusal.ensures
+    (q.both.ensures ∙ rw (q.before.before.split_named_lem.ensures, q.before.fits2.ensures)) k.before.first-refusal.ensures
     k.if1.false _ f.before.before.slots_at.ensures _ f.before.key.ensures f.choose.ensures c.before.enum_told.given.1 _ c.started.ensures
 
 same-length-3 : tie.Need-same-length-3
@@ -104,7 +104,7 @@ returns-3 c =
     let q = k.before.before.before.before in
     let s = q.before.before.before.before.before.before in
     limit _ s.requires _ k.before.before.head_at.ensures _ _ _ _ _ _ _ _ _ q.before.before.before.split-of.ensures
-    (q.both.ensures ∙ rw (q.before.before.split-named.ensures, q.before.fits2.ensures)) k.before.first-refusal.ensures
+    (q.both.ensures ∙ rw (q.before.before.split_named_lem.ensures, q.before.fits2.ensures)) k.before.first-refusal.ensures
     k.if1.false _ f.before.before.slots_at.ensures _ f.before.key.ensures f.choose.ensures c.before.enum-told2.given.1 _ c.started2.ensures
 
 same-length-4 : tie.Need-same-length-4
@@ -117,7 +117,7 @@ returns-4 c =
     let q = k.before.before.before.before in
     let s = q.before.before.before.before.before.before in
     held _ s.requires _ k.before.before.head_at.ensures _ _ _ _ _ _ _ _ _ q.before.before.before.split-of.ensures
-    (q.both.ensures ∙ rw (q.before.before.split-named.ensures, q.before.fits2.ensures)) k.before.first-refusal.ensures
+    (q.both.ensures ∙ rw (q.before.before.split_named_lem.ensures, q.before.fits2.ensures)) k.before.first-refusal.ensures
     k.if1.false _ f.before.before.slots_at.ensures _ f.before.key.ensures f.choose.ensures c.before.before.n.given.1 _ c.started3.ensures
 
 same-length-5 : tie.Need-same-length-5
@@ -130,7 +130,7 @@ returns-5 c =
     let q = k.before.before.before.before in
     let s = q.before.before.before.before.before.before in
     reused _ s.requires _ k.before.before.head_at.ensures _ _ _ _ _ _ _ _ _ q.before.before.before.split-of.ensures
-    (q.both.ensures ∙ rw (q.before.before.split-named.ensures, q.before.fits2.ensures)) k.before.first-refusal.ensures
+    (q.both.ensures ∙ rw (q.before.before.split_named_lem.ensures, q.before.fits2.ensures)) k.before.first-refusal.ensures
     k.if1.false _ f.before.before.slots_at.ensures _ f.before.key.ensures f.choose.ensures c.before.before.before.before.before.before.n2.given.1 _ _ c.started4.ensures c.before.before.before.store.ensures
 
 same-length-6 : tie.Need-same-length-6
@@ -143,7 +143,7 @@ returns-6 c =
     let q = k.before.before.before.before in
     let s = q.before.before.before.before.before.before in
     took _ s.requires _ k.before.before.head_at.ensures _ _ _ _ _ _ _ _ _ q.before.before.before.split-of.ensures
-    (q.both.ensures ∙ rw (q.before.before.split-named.ensures, q.before.fits2.ensures)) k.before.first-refusal.ensures
+    (q.both.ensures ∙ rw (q.before.before.split_named_lem.ensures, q.before.fits2.ensures)) k.before.first-refusal.ensures
     k.if1.false _ f.before.before.slots_at.ensures _ f.before.key.ensures f.choose.ensures c.before.before.before.before.before.before.n3.given.1 _ _ c.started5.ensures c.before.before.before.store2.ensures
 
 pub start-split-spec : {M : Type 1} → statement M

@@ -1,4 +1,4 @@
-use Rattle.grimholdi_block.proofs.Writing.{way-facts, add-nowhere, add_none, add-full, add_done}
+use Rattle.grimholdi_block.proofs.Writing.{way_facts, add_nowhere, add_none, add_full, add_done}
 use native.Mathlib.Omega.{arith}
 use borrow.Author.Tests.{not-true, not-false}
 use borrow.Author.Rules.{rules}
@@ -15,7 +15,7 @@ returns : tie.Need-returns
 returns c =
     let at-is-under-way = c.before in
     let start = at-is-under-way.before.before.before.before in
-    add-nowhere start.args.block.now start.args.form.now _ at-is-under-way.is-under-way.ensures (not-true _ c.if1.true)
+    add_nowhere start.args.block.now start.args.form.now _ at-is-under-way.is-under-way.ensures (not-true _ c.if1.true)
 
 is-whole-requires : tie.Need-is-whole-requires
 is-whole-requires c κs = search rules
@@ -41,7 +41,7 @@ sub-if3 c =
     let at-is-under-way = at-if.before in
     let start = at-is-under-way.before.before.before.before in
     omega
-    (arith, c.count.ensures.0, (way-facts start.args.block.now _ at-is-under-way.is-under-way.ensures (not-false _ at-if.if1.false)).1)
+    (arith, c.count.ensures.0, (way_facts start.args.block.now _ at-is-under-way.is-under-way.ensures (not-false _ at-if.if1.false)).1)
 
 same-length-3 : tie.Need-same-length-3
 same-length-3 c = search rules
@@ -54,7 +54,7 @@ returns-3 c =
     let at-if' = at-is-whole.before in
     let at-is-under-way = at-if'.before in
     let start = at-is-under-way.before.before.before.before in
-    add-full start.args.block.now start.args.form.now _ at-is-under-way.is-under-way.ensures (not-false _ at-if'.if1.false)
+    add_full start.args.block.now start.args.form.now _ at-is-under-way.is-under-way.ensures (not-false _ at-if'.if1.false)
     _ at-is-whole.is_whole.ensures (not-false _ at-if.if2.false) _ at_count.count.ensures.0 c.if3.true
 
 lengthen-requires : tie.Need-lengthen-requires
@@ -62,7 +62,7 @@ lengthen-requires c κs =
     let at-if = c.before.before.before.before.before.before in
     let at-is-under-way = at-if.before in
     let start = at-is-under-way.before.before.before.before in
-    let f = way-facts start.args.block.now _ at-is-under-way.is-under-way.ensures (not-false _ at-if.if1.false) in
+    let f = way_facts start.args.block.now _ at-is-under-way.is-under-way.ensures (not-false _ at-if.if1.false) in
     (f.0, omega (arith, f.1, c.before.before.count.ensures.0, c.before.if3.false))
 
 same-length-4 : tie.Need-same-length-4

@@ -1,11 +1,11 @@
-use Rattle.grimholdi_block.proofs.Writing.{way-length, way-finished, way-count}
+use Rattle.grimholdi_block.proofs.Writing.{way_length, way_finished, way_count}
 use borrow.Author.Tests.{not-true, not-false}
 use borrow.Author.Rules.{rules}
 use Rattle.grimholdi_block.proofs.is_under_way.Statement.{statement}
 use Rattle.grimholdi_block.proofs.is_under_way.Tie as tie
 
 returns : tie.Need-returns
-returns c = way-length c.before.before.args.block.now c.if1.true
+returns c = way_length c.before.before.args.block.now c.if1.true
 
 is-waiting-requires : tie.Need-is-waiting-requires
 is-waiting-requires c κs = search rules
@@ -15,7 +15,7 @@ returns-2 c =
     let at-is-waiting = c.before in
     let at-if = at-is-waiting.before in
     let start = at-if.before.before in
-    way-finished start.args.block.now at-if.if1.false _ at-is-waiting.is-waiting.ensures (not-true _ c.if2.true)
+    way_finished start.args.block.now at-if.if1.false _ at-is-waiting.is-waiting.ensures (not-true _ c.if2.true)
 
 count-requires : tie.Need-count-requires
 count-requires c κs = search rules
@@ -26,7 +26,7 @@ returns-3 c =
     let at-is-waiting = at-if.before in
     let at-if' = at-is-waiting.before in
     let start = at-if'.before.before in
-    way-count start.args.block.now at-if'.if1.false _ at-is-waiting.is-waiting.ensures (not-false _ at-if.if2.false) _
+    way_count start.args.block.now at-if'.if1.false _ at-is-waiting.is-waiting.ensures (not-false _ at-if.if2.false) _
     c.count.ensures.0
 
 pub is-under-way-spec : {M : Type 1} → statement M

@@ -1,4 +1,4 @@
-use Rattle.grimholdi_block.proofs.Writing.{longer-is}
+use Rattle.grimholdi_block.proofs.Writing.{longer_is}
 use borrow.Author.Rules.{rules}
 use Rattle.grimholdi_block.proofs.lengthen.Statement.{statement}
 use Rattle.grimholdi_block.proofs.lengthen.Tie as tie
@@ -30,7 +30,7 @@ returns c =
     let at-put-half = at-put.before.before.before.before in
     let at_count = at-put-half.before.before in
     let start = at_count.before.before.before.before in
-    longer-is start.args.block.now start.args.form.now _ _ _ at_count.count.ensures.0 at-put-half.put-half.ensures
+    longer_is start.args.block.now start.args.form.now _ _ _ at_count.count.ensures.0 at-put-half.put-half.ensures
     at-put.put.ensures
 
 pub lengthen-spec : {M : Type 1} → statement M

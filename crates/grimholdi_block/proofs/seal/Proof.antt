@@ -1,4 +1,4 @@
-use Rattle.grimholdi_block.proofs.Writing.{seal-is}
+use Rattle.grimholdi_block.proofs.Writing.{seal_is}
 use borrow.Author.Rules.{rules}
 use Rattle.grimholdi_block.proofs.seal.Statement.{statement}
 use Rattle.grimholdi_block.proofs.seal.Tie as tie
@@ -28,7 +28,7 @@ returns c =
     let at-put-half' = at-word-sum.before.before.before.before in
     let at-half-at = at-put-half'.before.before in
     let start = at-half-at.before.before.before in
-    seal-is start.args.block.now _ _ _ _ at-half-at.half_at.ensures.0 at-put-half'.put-half.ensures
+    seal_is start.args.block.now _ _ _ _ at-half-at.half_at.ensures.0 at-put-half'.put-half.ensures
     at-word-sum.word_sum.ensures at-put-half.put-half2.ensures
 
 pub seal-spec : {M : Type 1} → statement M

@@ -1,4 +1,4 @@
-use Rattle.grimholdi_replay.proofs.Entry.{refuses, no-space, length-fits, replays}
+use Rattle.grimholdi_replay.proofs.Entry.{refuses, no_space, length_fits_lem, replays}
 use native.Mathlib.Omega.{arith}
 use borrow.Author.Tests.{not-true, not-false}
 use borrow.Author.Rules.{rules}
@@ -39,7 +39,7 @@ returns-2 c =
     let r = d.before.before.before.before.before in
     let a = r.before.before.before.before.before.args in
     let ok = not-false _ d.before.before.before.if1.false in
-    no-space a.area.now a.place a.block.now a.answers.now _ r.read-area.ensures ok _ d.replay-block.ensures.0
+    no_space a.area.now a.place a.block.now a.answers.now _ r.read-area.ensures ok _ d.replay-block.ensures.0
     (not-true _ c.before.if2.true) c.plain-replayed2.ensures d.replay-block.ensures.1
 
 write-area-requires : tie.Need-write-area-requires
@@ -60,7 +60,7 @@ cast-t21 c =
     let ok = not-false _ d.before.before.before.if1.false in
     let enough = not-false _ k.if2.false in
     let e = d.replay-block.ensures.0 in
-    let small = length-fits a.area.now a.place a.block.now a.answers.now _ r.read-area.ensures ok _ e enough in
+    let small = length_fits_lem a.area.now a.place a.block.now a.answers.now _ r.read-area.ensures ok _ e enough in
     omega (arith, small)
 
 same-length-4 : tie.Need-same-length-4

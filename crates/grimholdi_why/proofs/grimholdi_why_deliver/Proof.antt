@@ -1,4 +1,4 @@
-use Rattle.grimholdi_why.proofs.Explained.{tells, tells-refused}
+use Rattle.grimholdi_why.proofs.Explained.{tells, tells_refused}
 use borrow.Author.Rules.{rules}
 use Rattle.grimholdi_why.proofs.grimholdi_why_deliver.Statement.{statement}
 use Rattle.grimholdi_why.proofs.grimholdi_why_deliver.Tie as tie
@@ -21,7 +21,7 @@ bytes-of-requires-2 : tie.Need-bytes-of-requires-2
 bytes-of-requires-2 c κs = search rules
 
 returns-2 : tie.Need-returns-2
-returns-2 c = tells-refused _ _ c.before.before.read-area.ensures _ c.before.if1.false c.bytes-of2.ensures
+returns-2 c = tells_refused _ _ c.before.before.read-area.ensures _ c.before.if1.false c.bytes-of2.ensures
 
 pub grimholdi-why-deliver-spec : {M : Type 1} → statement M
 grimholdi-why-deliver-spec =

@@ -1,4 +1,4 @@
-use Rattle.hub.proofs.Numbers.{past, last-power}
+use Rattle.hub.proofs.Numbers.{past, last_power}
 use native.Mathlib.Omega.{arith}
 use Rattle.hub.proofs.above_port.Statement.{statement}
 use Rattle.hub.proofs.above_port.Tie as tie
@@ -27,7 +27,7 @@ returns-7 c = λ _. rw c.match.keys7
 returns-8 : tie.Need-returns-8
 returns-8 c =
     let r = c.match.rest in
-    last-power _ (past 6 (past 5 (past 4 (past 3 (past 2 (past 1 (past 0 (omega arith) r.0.0.0.0.0.0.1) r.0.0.0.0.0.1) r.0.0.0.0.1) r.0.0.0.1) r.0.0.1) r.0.1) r.1)
+    last_power _ (past 6 (past 5 (past 4 (past 3 (past 2 (past 1 (past 0 (omega arith) r.0.0.0.0.0.0.1) r.0.0.0.0.0.1) r.0.0.0.0.1) r.0.0.0.1) r.0.0.1) r.0.1) r.1)
 
 pub above-port-spec : {M : Type 1} → statement M
 above-port-spec =

@@ -27,7 +27,7 @@ flag-number-requires-2 : tie.Need-flag-number-requires-2
 flag-number-requires-2 c κs = search rules
 
 returns : tie.Need-returns
-returns c = rw (c.flag-number2.ensures, c.before.flag-number.ensures, c.before.before.direction-number.ensures, c.before.before.before.direction.ensures, c.before.before.before.before.lane-number.ensures, c.before.before.before.before.before.type-number.ensures, c.before.before.before.before.before.before.pid-number.ensures, c.before.before.before.before.before.before.before.launch-answer.ensures)
+returns c = rw (c.flag-number2.ensures, c.before.flag-number.ensures, c.before.before.direction_number_lem.ensures, c.before.before.before.direction.ensures, c.before.before.before.before.lane_number_lem.ensures, c.before.before.before.before.before.type_number_lem.ensures, c.before.before.before.before.before.before.pid_number_lem.ensures, c.before.before.before.before.before.before.before.launch-answer.ensures)
 
 pub give-launch-spec : {M : Type 1} → statement M
 give-launch-spec =

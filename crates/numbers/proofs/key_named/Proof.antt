@@ -20,7 +20,7 @@ both-requires-3 c κs = search rules
 
 returns : tie.Need-returns
 unfolding key_named
-returns c = rw (c.both3.ensures, c.before.both2.ensures, c.before.before.is-direction.ensures, c.before.before.before.both.ensures, c.before.before.before.before.is-lane.ensures)
+returns c = rw (c.both3.ensures, c.before.both2.ensures, c.before.before.is-direction.ensures, c.before.before.before.both.ensures, c.before.before.before.before.is_lane_lem.ensures)
 
 pub key-named-spec : {M : Type 1} → statement M
 key-named-spec =

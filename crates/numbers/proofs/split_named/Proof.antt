@@ -38,7 +38,7 @@ both-requires-6 c κs = search rules
 
 returns : tie.Need-returns
 unfolding split_named
-returns c = rw (c.both6.ensures, c.before.both5.ensures, c.before.before.both4.ensures, c.before.before.before.is-lane.ensures, c.before.before.before.before.both3.ensures, c.before.before.before.before.before.both2.ensures, c.before.before.before.before.before.before.is-flag2.ensures, c.before.before.before.before.before.before.before.is-flag.ensures, c.before.before.before.before.before.before.before.before.both.ensures, c.before.before.before.before.before.before.before.before.before.is-type.ensures, c.before.before.before.before.before.before.before.before.before.before.is-pid.ensures)
+returns c = rw (c.both6.ensures, c.before.both5.ensures, c.before.before.both4.ensures, c.before.before.before.is_lane_lem.ensures, c.before.before.before.before.both3.ensures, c.before.before.before.before.before.both2.ensures, c.before.before.before.before.before.before.is-flag2.ensures, c.before.before.before.before.before.before.before.is-flag.ensures, c.before.before.before.before.before.before.before.before.both.ensures, c.before.before.before.before.before.before.before.before.before.is-type.ensures, c.before.before.before.before.before.before.before.before.before.before.is-pid.ensures)
 
 pub split-named-spec : {M : Type 1} → statement M
 split-named-spec =

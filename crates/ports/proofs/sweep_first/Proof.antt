@@ -5,7 +5,7 @@ use native.Mathlib.Omega.{arith}
 use lib.ListN.{length}
 use Rattle.port.specs.Reaction.{Answered, new_port}
 use Rattle.ports.specs.Sweep.{front, swept_by, swept}
-use Rattle.ports.proofs.Front.{front-step, front-over}
+use Rattle.ports.proofs.Front.{front_step, front_over}
 use Rattle.ports.proofs.sweep_first.Statement.{statement}
 use Rattle.ports.proofs.sweep_first.Tie as tie
 
@@ -55,14 +55,14 @@ loop-again c =
     let a = c.before.before.before.before.before.before.args in
     let at = c.before.before.before.before.before.loop in
     let n : length a.ports ≡ 7 = search rules in
-    (omega arith, (omega arith, rw (ap (λ (x : Answered). x.port) c.before.step.ensures, at.invariant.1.1, front-step (swept_by a.what) at.i a.ports new_port (omega arith))))
+    (omega arith, (omega arith, rw (ap (λ (x : Answered). x.port) c.before.step.ensures, at.invariant.1.1, front_step (swept_by a.what) at.i a.ports new_port (omega arith))))
 
 returns-2 : tie.Need-returns-2 invariant-loop decreases-loop
 unfolding swept
 returns-2 c =
     let a = c.before.before.args in
     let n : length a.ports ≡ 7 = search rules in
-    c.before.loop.invariant.1.1 ∙ front-over (swept_by a.what) c.before.loop.i a.count.0 a.ports (omega arith) (omega arith)
+    c.before.loop.invariant.1.1 ∙ front_over (swept_by a.what) c.before.loop.i a.count.0 a.ports (omega arith) (omega arith)
 
 pub sweep-first-spec : {M : Type 1} → statement M
 sweep-first-spec =

@@ -4,7 +4,7 @@ use mathlib.Core.Path.{◌≡◌, refl, sym, ◌∙◌, ap}
 use lib.ListN.{length, drop}
 use borrow.Author.Tests.{not-true, not-false}
 use Rattle.recording.specs.Calls.{calls_of, is_some}
-use Rattle.recording.proofs.Rows.{none-there, turn-size, turn-some, at-end}
+use Rattle.recording.proofs.Rows.{none_there, turn_size, turn_some, at_end}
 use borrow.Author.Rules.{rules}
 use Rattle.recording.proofs.are_records.Statement.{statement}
 use Rattle.recording.proofs.are_records.Tie as tie
@@ -41,7 +41,7 @@ returns c =
     let at-loop = at-loop-test.before in
     let start = at-loop.before.before in
     sym
-    (sym at-loop.loop.invariant.1 ∙ none-there start.args.s.now _ at-loop-test.loop-test.true _ at-read-record.read-record.ensures (sym at-is-known.is_Known.ensures ∙ not-true _ c.if1.true))
+    (sym at-loop.loop.invariant.1 ∙ none_there start.args.s.now _ at-loop-test.loop-test.true _ at-read-record.read-record.ensures (sym at-is-known.is_Known.ensures ∙ not-true _ c.if1.true))
 
 add_at : tie.Need-overflow-add-at invariant-loop decreases-loop
 add_at c =
@@ -51,7 +51,7 @@ add_at c =
     let at-loop-test = at-read-record.before.before in
     let start = at-loop-test.before.before.before in
     omega
-    (arith, turn-size start.args.s.now _ at-loop-test.loop-test.true _ at-read-record.read-record.ensures (sym at-is-known.is_Known.ensures ∙ not-false _ at-if.if1.false))
+    (arith, turn_size start.args.s.now _ at-loop-test.loop-test.true _ at-read-record.read-record.ensures (sym at-is-known.is_Known.ensures ∙ not-false _ at-if.if1.false))
 
 loop-less : tie.Need-loop-smaller invariant-loop decreases-loop
 loop-less c =
@@ -61,7 +61,7 @@ loop-less c =
     let at-loop-test = at-read-record.before.before in
     let start = at-loop-test.before.before.before in
     omega
-    (arith, turn-size start.args.s.now _ at-loop-test.loop-test.true _ at-read-record.read-record.ensures (sym at-is-known.is_Known.ensures ∙ not-false _ at-if.if1.false))
+    (arith, turn_size start.args.s.now _ at-loop-test.loop-test.true _ at-read-record.read-record.ensures (sym at-is-known.is_Known.ensures ∙ not-false _ at-if.if1.false))
 
 loop-again : tie.Need-loop-preserved invariant-loop decreases-loop
 loop-again c =
@@ -69,12 +69,12 @@ loop-again c =
     let at_test = at_read.before.before in
     let known = sym c.before.before.is_Known.ensures ∙ not-false _ c.before.if1.false in
     let l = at_test.before.before.before.args.s.now in (
-      (turn-size l _ at_test.loop-test.true _ at_read.read-record.ensures known).1,
-      sym (turn-some l _ at_test.loop-test.true _ at_read.read-record.ensures known) ∙ at_test.before.loop.invariant.1,
+      (turn_size l _ at_test.loop-test.true _ at_read.read-record.ensures known).1,
+      sym (turn_some l _ at_test.loop-test.true _ at_read.read-record.ensures known) ∙ at_test.before.loop.invariant.1,
     )
 
 returns-2 : tie.Need-returns-2 invariant-loop decreases-loop
-returns-2 c = let l = c.before.before.before.args.s.now in sym (ap is_some (at-end l c.before.loop.at (omega arith))) ∙ c.before.loop.invariant.1
+returns-2 c = let l = c.before.before.before.args.s.now in sym (ap is_some (at_end l c.before.loop.at (omega arith))) ∙ c.before.loop.invariant.1
 
 pub are-records-spec : {M : Type 1} → statement M
 are-records-spec =

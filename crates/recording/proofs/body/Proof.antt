@@ -1,4 +1,4 @@
-use Rattle.recording.proofs.Verdicts.{body-record, body-good, body-count, count_small}
+use Rattle.recording.proofs.Verdicts.{body_record, body_good, body_count, count_small}
 use native.Mathlib.Omega.{arith}
 use borrow.Author.Tests.{not-true, not-false}
 use borrow.Author.Rules.{rules}
@@ -9,7 +9,7 @@ count-fits-requires : tie.Need-count-fits-requires
 count-fits-requires c κs = search rules
 
 returns : tie.Need-returns
-returns c = body-count c.before.before.before.args.s.now _ c.before.count-fits.ensures (not-true _ c.if1.true)
+returns c = body_count c.before.before.before.args.s.now _ c.before.count-fits.ensures (not-true _ c.if1.true)
 
 records-fit-requires : tie.Need-records-fit-requires
 records-fit-requires c κs =
@@ -23,7 +23,7 @@ returns-2 c =
     let at-if = at-records-fit.before in
     let at-count-fits = at-if.before in
     let start = at-count-fits.before.before in
-    body-record start.args.s.now _ _ at-count-fits.count-fits.ensures at-records-fit.records-fit.ensures
+    body_record start.args.s.now _ _ at-count-fits.count-fits.ensures at-records-fit.records-fit.ensures
     (not-false _ at-if.if1.false) (not-true _ c.if2.true)
 
 returns-3 : tie.Need-returns-3
@@ -32,7 +32,7 @@ returns-3 c =
     let at-if = at-records-fit.before in
     let at-count-fits = at-if.before in
     let start = at-count-fits.before.before in
-    body-good start.args.s.now _ _ at-count-fits.count-fits.ensures at-records-fit.records-fit.ensures
+    body_good start.args.s.now _ _ at-count-fits.count-fits.ensures at-records-fit.records-fit.ensures
     (not-false _ at-if.if1.false) (not-false _ c.if2.false)
 
 pub body-spec : {M : Type 1} → statement M

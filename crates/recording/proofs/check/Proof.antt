@@ -1,10 +1,10 @@
-use Rattle.recording.proofs.Verdicts.{wrong-length, wrong-check, wrong-number, right-number}
+use Rattle.recording.proofs.Verdicts.{wrong_length_lem, wrong_check, wrong_number, right_number}
 use borrow.Author.Rules.{rules}
 use Rattle.recording.proofs.check.Statement.{statement}
 use Rattle.recording.proofs.check.Tie as tie
 
 returns : tie.Need-returns
-returns c = wrong-length c.before.before.args.s.now _ _ c.if1.true
+returns c = wrong_length_lem c.before.before.args.s.now _ _ c.if1.true
 
 word-sum-requires : tie.Need-word-sum-requires
 word-sum-requires c κs = search rules
@@ -14,7 +14,7 @@ returns-2 c =
     let at-word-sum = c.before in
     let at-if = at-word-sum.before in
     let start = at-if.before.before in
-    wrong-check start.args.s.now _ _ at-if.if1.false _ at-word-sum.word_sum.ensures c.if2.true
+    wrong_check start.args.s.now _ _ at-if.if1.false _ at-word-sum.word_sum.ensures c.if2.true
 
 number-fits-requires : tie.Need-number-fits-requires
 number-fits-requires c κs = search rules
@@ -30,7 +30,7 @@ returns-3 c =
     let at-word-sum = at-if.before in
     let at-if' = at-word-sum.before in
     let start = at-if'.before.before in
-    wrong-number start.args.s.now _ _ at-if'.if1.false _ at-word-sum.word_sum.ensures at-if.if2.false _
+    wrong_number start.args.s.now _ _ at-if'.if1.false _ at-word-sum.word_sum.ensures at-if.if2.false _
     at-number-fits.number-fits.ensures _ at_both.both.ensures c.if3.true
 
 body-requires : tie.Need-body-requires
@@ -45,7 +45,7 @@ returns-4 c =
     let at-word-sum = at-if'.before in
     let at-if'' = at-word-sum.before in
     let start = at-if''.before.before in
-    right-number start.args.s.now _ _ at-if''.if1.false _ at-word-sum.word_sum.ensures at-if'.if2.false _
+    right_number start.args.s.now _ _ at-if''.if1.false _ at-word-sum.word_sum.ensures at-if'.if2.false _
     at-number-fits.number-fits.ensures _ at_both.both.ensures at-if.if3.false _ c.body.ensures
 
 pub check-spec : {M : Type 1} → statement M

@@ -1,4 +1,4 @@
-use Rattle.recording.proofs.Verdicts.{count-over, count_zeros}
+use Rattle.recording.proofs.Verdicts.{count_over, count_zeros}
 use native.Mathlib.Omega.{arith}
 use lib.Seq.{length-take-le}
 use mathlib.Core.Path.{sym}
@@ -10,7 +10,7 @@ count-requires : tie.Need-count-requires
 count-requires c κs = search rules
 
 returns : tie.Need-returns
-returns c = count-over c.before.before.before.args.s.now _ c.before.count.ensures.0 (omega arith)
+returns c = count_over c.before.before.before.args.s.now _ c.before.count.ensures.0 (omega arith)
 
 add_start : tie.Need-overflow-add-start
 add_start c = search rules

@@ -1,4 +1,4 @@
-use Rattle.recording.proofs.Verdicts.{used-is}
+use Rattle.recording.proofs.Verdicts.{used_is}
 use borrow.Author.Rules.{rules}
 use Rattle.recording.proofs.records_fit.Statement.{statement}
 use Rattle.recording.proofs.records_fit.Tie as tie
@@ -22,7 +22,7 @@ are-records-requires : tie.Need-are-records-requires
 are-records-requires c κs = search rules
 
 returns : tie.Need-returns
-returns c = used-is c.before.before.before.before.args.s.now _ _ c.before.before.count.ensures.0 c.are-records.ensures
+returns c = used_is c.before.before.before.before.args.s.now _ _ c.before.before.count.ensures.0 c.are-records.ensures
 
 pub records-fit-spec : {M : Type 1} → statement M
 records-fit-spec =

@@ -1,8 +1,8 @@
-use Rattle.replay.proofs.Playing.{active-is}
+use Rattle.replay.proofs.Playing.{active_is}
 use mathlib.Core.Path.{◌≡◌}
 use lib.ListN.{length}
 use Rattle.buffer.specs.Buffer.{is_active}
-use Rattle.translator.proofs.Lists.{tally-four}
+use Rattle.translator.proofs.Lists.{tally_four}
 use borrow.Author.Rules.{rules}
 use Rattle.replay.proofs.active.Statement.{statement}
 use Rattle.replay.proofs.active.Tie as tie
@@ -46,8 +46,8 @@ returns c =
     let sum = c.how-many.ensures in
     let first = k.before.before.is-active.ensures in
     let third = c.before.before.before.is-active3.ensures in
-    let e = tally-four _ ss four is_active sum.0 first k.is-active2.ensures third c.before.is-active4.ensures in
-    (active-is s.before.before.args.hub.translator.buffers ss _ s.slots.ensures e, sum.1)
+    let e = tally_four _ ss four is_active sum.0 first k.is-active2.ensures third c.before.is-active4.ensures in
+    (active_is s.before.before.args.hub.translator.buffers ss _ s.slots.ensures e, sum.1)
 
 pub active-spec : {M : Type 1} → statement M
 active-spec =

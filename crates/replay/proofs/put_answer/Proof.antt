@@ -1,4 +1,4 @@
-use Rattle.replay.proofs.Playing.{head-with, answer-put, answer-size, content-short}
+use Rattle.replay.proofs.Playing.{head_with, answer_put, answer_size, content_short}
 use Rattle.hub.specs.Method.{outcome_of}
 use Prim.Native.Nat.{ℕ, ◌≤◌}
 use mathlib.Core.Path.{◌≡◌, ap, subst}
@@ -44,10 +44,10 @@ returns c =
     let k : length s.args.said.payload.bytes ≡ 64 = search rules in
     let m = c.before.before.before.before.before.before.before.before.before in
     let e = m.size.ensures in
-    let small : m.size.result ≤ 64 = rw e (content-short s.args.said.payload k) in
+    let small : m.size.result ≤ 64 = rw e (content_short s.args.said.payload k) in
     let short = subst (λ (n : ℕ). n ≤ 64) e small in
     let copied = c.before.before.before.before.before.before.copy.ensures.1 in
-    (answer-size a _ e small, answer-put a _ s.args.out.now _ _ (ap (head-with a) e) s.requires short copied c.before.before.give.ensures)
+    (answer_size a _ e small, answer_put a _ s.args.out.now _ _ (ap (head_with a) e) s.requires short copied c.before.before.give.ensures)
 
 pub put-answer-spec : {M : Type 1} → statement M
 put-answer-spec =

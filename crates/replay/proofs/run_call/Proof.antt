@@ -162,7 +162,7 @@ returns-9 : tie.Need-returns-9
 returns-9 c = rw (c.tick2.ensures, c.before.enum-told9.given.1)
 
 returns-10 : tie.Need-returns-10
-returns-10 c = rw (c.bus-reset.ensures, c.before.enum-told10.given.1)
+returns-10 c = rw (c.bus_reset_lem.ensures, c.before.enum-told10.given.1)
 
 pub run-call-spec : {M : Type 1} → statement M
 run-call-spec =

@@ -1,4 +1,4 @@
-use Rattle.replay.proofs.Going.{Going, going_start, going-fits, going-turn, turn_more, going_end}
+use Rattle.replay.proofs.Going.{Going, going_start, going_fits, going_turn, turn_more, going_end}
 use Prim.Native.Nat.{◌-◌}
 use native.Mathlib.Omega.{arith}
 use lib.ListN.{length}
@@ -17,7 +17,7 @@ loop-holds c = going_start c.before.before.requires
 turn-requires : tie.Need-turn-requires invariant-loop decreases-loop
 turn-requires c κs =
     let was = c.before.before.before in
-    going-fits was.before.before.before.requires was.loop.invariant c.before.if1.true
+    going_fits was.before.before.before.requires was.loop.invariant c.before.if1.true
 
 loop-less : tie.Need-loop-smaller invariant-loop decreases-loop
 loop-less c =
@@ -25,13 +25,13 @@ loop-less c =
     let was = c.before.before.before.before.before.before.loop.invariant in
     let here = c.before.before.before.before.if1.true in
     let t = c.before.before.turn.ensures in
-    omega (arith, (going-turn s.requires was here t).inside, turn_more s.requires was here t)
+    omega (arith, (going_turn s.requires was here t).inside, turn_more s.requires was here t)
 
 loop-again : tie.Need-loop-preserved invariant-loop decreases-loop
 loop-again c =
     let s = c.before.before.before.before.before.before.before.before.before in
     let was = c.before.before.before.before.before.before.loop.invariant in
-    going-turn s.requires was c.before.before.before.before.if1.true c.before.before.turn.ensures
+    going_turn s.requires was c.before.before.before.before.if1.true c.before.before.turn.ensures
 
 same_length : tie.Need-same-length invariant-loop decreases-loop
 same_length c = c.before.before.loop.invariant.same

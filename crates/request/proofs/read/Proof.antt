@@ -1,6 +1,6 @@
 use mathlib.Core.Path.{sym, ◌∙◌}
 use borrow.Author.Rules.{rules}
-use Rattle.request.proofs.Reading.{right, wrong-length, wrong-index, wrong-value, wrong_type}
+use Rattle.request.proofs.Reading.{right, wrong_length_lem, wrong_index_lem, wrong_value_lem, wrong_type}
 use Rattle.request.proofs.read.Statement.{statement}
 use Rattle.request.proofs.read.Tie as tie
 
@@ -34,21 +34,21 @@ returns c =
     (sym c.before.before.before.before.before.before.before.before.is_Known.ensures ∙ c.before.before.before.before.before.before.before.if1.true)
     (sym c.before.before.before.before.before.before.value-fits.ensures ∙ c.before.before.before.before.before.if2.true)
     (sym c.before.before.before.before.index-fits.ensures ∙ c.before.before.before.if3.true)
-    (sym c.before.before.length-fits.ensures ∙ c.before.if4.true)
+    (sym c.before.before.length_fits_lem.ensures ∙ c.before.if4.true)
 
 returns-2 : tie.Need-returns-2
 returns-2 c =
-    wrong-length _ _
+    wrong_length_lem _ _
     c.before.before.before.before.before.before.before.before.before.setup-of.ensures
     c.before.before.before.before.before.before.before.before.kind-of.ensures
     (sym c.before.before.before.before.before.before.before.is_Known.ensures ∙ c.before.before.before.before.before.before.if1.true)
     (sym c.before.before.before.before.before.value-fits.ensures ∙ c.before.before.before.before.if2.true)
     (sym c.before.before.before.index-fits.ensures ∙ c.before.before.if3.true)
-    (sym c.before.length-fits.ensures ∙ c.if4.false)
+    (sym c.before.length_fits_lem.ensures ∙ c.if4.false)
 
 returns-3 : tie.Need-returns-3
 returns-3 c =
-    wrong-index _ _
+    wrong_index_lem _ _
     c.before.before.before.before.before.before.before.setup-of.ensures
     c.before.before.before.before.before.before.kind-of.ensures
     (sym c.before.before.before.before.before.is_Known.ensures ∙ c.before.before.before.before.if1.true)
@@ -57,7 +57,7 @@ returns-3 c =
 
 returns-4 : tie.Need-returns-4
 returns-4 c =
-    wrong-value _ _
+    wrong_value_lem _ _
     c.before.before.before.before.before.setup-of.ensures
     c.before.before.before.before.kind-of.ensures
     (sym c.before.before.before.is_Known.ensures ∙ c.before.before.if1.true)

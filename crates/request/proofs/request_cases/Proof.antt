@@ -6,7 +6,7 @@ use Rattle.request.proofs.request_cases.Tie as tie
 
 returns : tie.Need-returns
 unfolding kind_of checked request_of
-returns c = record { right-read = refl; value-told = refl; index-told = refl; length-told = refl; type-told = refl; first-told = refl }
+returns c = record { right_read = refl; value_told = refl; index_told = refl; length_told = refl; type_told = refl; first_told = refl }
 
 pub request-cases-spec : {M : Type 1} → statement M
 request-cases-spec = tie.close (tie.spec returns)

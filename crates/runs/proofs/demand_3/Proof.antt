@@ -1,9 +1,9 @@
-use Rattle.runs.proofs.Theorems.{demand-3}
+use Rattle.runs.proofs.Theorems.{demand_3}
 use Rattle.runs.proofs.demand_3.Statement.{statement}
 use Rattle.runs.proofs.demand_3.Tie as tie
 
 returns : tie.Need-returns
-returns c = demand-3
+returns c = demand_3
 
 pub demand-3-spec : {M : Type 1} → statement M
 demand-3-spec = tie.close (tie.spec returns)

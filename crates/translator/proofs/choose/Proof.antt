@@ -12,7 +12,7 @@ choice-requires : tie.Need-choice-requires
 choice-requires c κs = search rules
 
 returns : tie.Need-returns
-returns c = c.choice.ensures ∙ ap (choice_of _) c.before.one-pass.ensures ∙ pass-permitted _ _ _
+returns c = c.choice.ensures ∙ ap (choice_of _) c.before.one_pass.ensures ∙ pass-permitted _ _ _
 
 pub choose_spec : {M : Type 1} → statement M
 choose_spec = tie.close (tie.spec one-pass-requires choice-requires returns)

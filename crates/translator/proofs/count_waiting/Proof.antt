@@ -1,7 +1,7 @@
 use mathlib.Core.Path.{◌≡◌}
 use lib.ListN.{length}
 use Rattle.buffer.specs.Buffer.{is_pending}
-use Rattle.translator.proofs.Lists.{tally-four}
+use Rattle.translator.proofs.Lists.{tally_four}
 use borrow.Author.Rules.{rules}
 use Rattle.translator.proofs.count_waiting.Statement.{statement}
 use Rattle.translator.proofs.count_waiting.Tie as tie
@@ -37,7 +37,7 @@ returns : tie.Need-returns
 returns c =
     let s = c.before.before.before.before.before.before.before.before.before in
     let l : length s.args.t1 ≡ 4 = search rules in
-    tally-four _ s.args.t1 l is_pending c.how-many.ensures.0 c.before.before.before.before.before.before.before.is-waiting.ensures c.before.before.before.before.before.is-waiting2.ensures c.before.before.before.is-waiting3.ensures c.before.is-waiting4.ensures
+    tally_four _ s.args.t1 l is_pending c.how-many.ensures.0 c.before.before.before.before.before.before.before.is-waiting.ensures c.before.before.before.before.before.is-waiting2.ensures c.before.before.before.is-waiting3.ensures c.before.is-waiting4.ensures
 
 pub count-waiting-spec : {M : Type 1} → statement M
 count-waiting-spec =

@@ -7,7 +7,7 @@ use Rattle.buffer.specs.Buffer.{holds}
 use Rattle.translator.specs.declared.Found.TheVariants.{Nowhere}
 use Rattle.translator.specs.Search.{find}
 use Rattle.translator.specs.Slots.{bare}
-use Rattle.translator.proofs.Passes.{Ahead, ended, finding, finding-from, not-here, found_here}
+use Rattle.translator.proofs.Passes.{Ahead, ended, finding, finding_from, not_here, found_here}
 use Rattle.translator.proofs.holder.Statement.{statement}
 use Rattle.translator.proofs.holder.Tie as tie
 
@@ -25,7 +25,7 @@ cast-used : tie.Need-overflow-cast-used invariant-loop decreases-loop
 cast-used c = search rules
 
 loop-holds : tie.Need-loop-init invariant-loop decreases-loop
-loop-holds c = finding-from _ _ _
+loop-holds c = finding_from _ _ _
 
 returns : tie.Need-returns invariant-loop decreases-loop
 returns c = ended c.before.before.loop.invariant (omega (arith, long c.before.before.before.before))
@@ -56,7 +56,7 @@ loop-less c = search rules
 loop-again : tie.Need-loop-preserved invariant-loop decreases-loop
 loop-again c =
     let l = c.before.before.before.before.before in
-    not-here _ l.loop.invariant c.before.holds.ensures c.if2.false (omega arith) (omega (arith, long l.before.before))
+    not_here _ l.loop.invariant c.before.holds.ensures c.if2.false (omega arith) (omega (arith, long l.before.before))
 
 returns-3 : tie.Need-returns-3 invariant-loop decreases-loop
 returns-3 c = ended c.before.loop.invariant (omega (arith, long c.before.before.before))

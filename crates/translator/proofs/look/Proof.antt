@@ -1,4 +1,4 @@
-use Rattle.translator.proofs.Search.{look-counted, look-other, look-free, look-repeat, look-old}
+use Rattle.translator.proofs.Search.{look_counted, look_other, look_free, look_repeat, look_old}
 use borrow.Author.Rules.{rules}
 use Rattle.translator.proofs.look.Statement.{statement}
 use Rattle.translator.proofs.look.Tie as tie
@@ -34,19 +34,19 @@ past-old-requires : tie.Need-past-old-requires
 past-old-requires c κs = search rules
 
 returns : tie.Need-returns
-returns c = look-counted _ _ _ _ c.before.before.before.before.before.standing.ensures c.before.before.before.enum_told.given.1 c.before.before.is-active-in.ensures c.before.if1.true c.counted.ensures
+returns c = look_counted _ _ _ _ c.before.before.before.before.before.standing.ensures c.before.before.before.enum_told.given.1 c.before.before.is-active-in.ensures c.before.if1.true c.counted.ensures
 
 returns-2 : tie.Need-returns-2
-returns-2 c = look-other _ _ _ _ c.before.before.before.before.standing.ensures c.before.before.enum_told.given.1 c.before.is-active-in.ensures c.if1.false
+returns-2 c = look_other _ _ _ _ c.before.before.before.before.standing.ensures c.before.before.enum_told.given.1 c.before.is-active-in.ensures c.if1.false
 
 returns-3 : tie.Need-returns-3
-returns-3 c = look-free _ _ _ _ c.before.before.before.standing.ensures c.before.enum-told2.given.1 c.past-free.ensures
+returns-3 c = look_free _ _ _ _ c.before.before.before.standing.ensures c.before.enum-told2.given.1 c.past-free.ensures
 
 returns-4 : tie.Need-returns-4
-returns-4 c = look-repeat _ _ _ _ c.before.before.before.standing.ensures c.before.enum-told3.given.1 c.past-repeat.ensures
+returns-4 c = look_repeat _ _ _ _ c.before.before.before.standing.ensures c.before.enum-told3.given.1 c.past-repeat.ensures
 
 returns-5 : tie.Need-returns-5
-returns-5 c = look-old _ _ _ _ c.before.before.before.standing.ensures c.before.enum-told4.given.1 c.past-old.ensures
+returns-5 c = look_old _ _ _ _ c.before.before.before.standing.ensures c.before.enum-told4.given.1 c.past-old.ensures
 
 pub look_spec : {M : Type 1} → statement M
 look_spec =

@@ -6,7 +6,7 @@ use lib.ListN.{take, length}
 use Rattle.translator.specs.Slots.{bare}
 use Rattle.translator.specs.OnePass.{look, held_so_far, carried_by}
 use Rattle.translator.proofs.Passes.{Ahead, onward, ended}
-use Rattle.translator.proofs.Search.{looking, looking-from, ends-settled, few}
+use Rattle.translator.proofs.Search.{looking, looking_from, ends_settled, few}
 use Rattle.translator.proofs.one_pass.Statement.{statement}
 use Rattle.translator.proofs.one_pass.Tie as tie
 
@@ -24,7 +24,7 @@ cast-used : tie.Need-overflow-cast-used invariant-loop decreases-loop
 cast-used c = search rules
 
 loop-holds : tie.Need-loop-init invariant-loop decreases-loop
-loop-holds c = (looking-from _ _ _, search rules)
+loop-holds c = (looking_from _ _ _, search rules)
 
 returns : tie.Need-returns invariant-loop decreases-loop
 returns c = ended c.before.before.loop.invariant.0 (omega (arith, long c.before.before.before.before))
@@ -47,7 +47,7 @@ is-settled-requires c κs = search rules
 returns-2 : tie.Need-returns-2 invariant-loop decreases-loop
 returns-2 c =
     let l = c.before.before.before.before.before.before in
-    ends-settled _ _ (onward _ l.loop.invariant.0 c.before.before.look.ensures (omega arith) (omega (arith, long l.before.before))) (sym c.before.is-settled.ensures ∙ c.if2.true)
+    ends_settled _ _ (onward _ l.loop.invariant.0 c.before.before.look.ensures (omega arith) (omega (arith, long l.before.before))) (sym c.before.is-settled.ensures ∙ c.if2.true)
 
 add-n : tie.Need-overflow-add-n invariant-loop decreases-loop
 add-n c = search rules

@@ -1,7 +1,7 @@
 use mathlib.Core.Path.{◌≡◌}
 use lib.ListN.{length}
 use Rattle.translator.specs.Order.{is_before}
-use Rattle.translator.proofs.Lists.{tally-four}
+use Rattle.translator.proofs.Lists.{tally_four}
 use borrow.Author.Rules.{rules}
 use Rattle.translator.proofs.rank_of.Statement.{statement}
 use Rattle.translator.proofs.rank_of.Tie as tie
@@ -37,7 +37,7 @@ returns : tie.Need-returns
 returns c =
     let s = c.before.before.before.before.before.before.before.before.before in
     let l : length s.args.t1 ≡ 4 = search rules in
-    tally-four _ s.args.t1 l (is_before s.args.place) c.how-many.ensures.0 c.before.before.before.before.before.before.before.is-before.ensures c.before.before.before.before.before.is-before2.ensures c.before.before.before.is-before3.ensures c.before.is-before4.ensures
+    tally_four _ s.args.t1 l (is_before s.args.place) c.how-many.ensures.0 c.before.before.before.before.before.before.before.is-before.ensures c.before.before.before.before.before.is-before2.ensures c.before.before.before.is-before3.ensures c.before.is-before4.ensures
 
 pub rank-of-spec : {M : Type 1} → statement M
 rank-of-spec =

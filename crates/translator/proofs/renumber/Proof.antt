@@ -1,6 +1,6 @@
 use mathlib.Core.Path.{◌≡◌}
 use lib.ListN.{length}
-use Rattle.translator.proofs.Lists.{ranked-four}
+use Rattle.translator.proofs.Lists.{ranked_four}
 use borrow.Author.Rules.{rules}
 use Rattle.translator.proofs.renumber.Statement.{statement}
 use Rattle.translator.proofs.renumber.Tie as tie
@@ -33,7 +33,7 @@ returns : tie.Need-returns
 returns c =
     let s = c.before.before.before.before.before.before.before.before in
     let l : length s.args.t1 ≡ 4 = search rules in
-    ranked-four _ s.args.t1 l s.requires c.before.before.before.before.before.before.rerank.ensures c.before.before.before.before.rerank2.ensures c.before.before.rerank3.ensures c.rerank4.ensures
+    ranked_four _ s.args.t1 l s.requires c.before.before.before.before.before.before.rerank.ensures c.before.before.before.before.rerank2.ensures c.before.before.rerank3.ensures c.rerank4.ensures
 
 pub renumber-spec : {M : Type 1} → statement M
 renumber-spec =

@@ -12,7 +12,7 @@ use Rattle.translator.proofs.search_cases.Tie as tie
 
 returns : tie.Need-returns
 unfolding same_key bare find chosen pass tally permitted look
-returns c = record { carried = refl; read_off = refl; by-rule = refl }
+returns c = record { carried = refl; read_off = refl; by_rule = refl }
 
 pub search-cases-spec : {M : Type 1} → statement M
 search-cases-spec = tie.close (tie.spec returns)

@@ -1,4 +1,4 @@
-use Rattle.why.proofs.Explaining.{poll-way}
+use Rattle.why.proofs.Explaining.{poll_way}
 use borrow.Author.Rules.{rules}
 use Rattle.why.proofs.explain_poll.Statement.{statement}
 use Rattle.why.proofs.explain_poll.Tie as tie
@@ -16,7 +16,7 @@ number-first-requires : tie.Need-number-first-requires
 number-first-requires c κs = search rules
 
 returns : tie.Need-returns
-returns c = poll-way _ _ _ c.before.before.before.poll.ensures c.number-first.ensures c.before.poll-reason.ensures c.before.before.changes-by-port.ensures
+returns c = poll_way _ _ _ c.before.before.before.poll.ensures c.number_first_lem.ensures c.before.poll-reason.ensures c.before.before.changes-by-port.ensures
 
 pub explain-poll-spec : {M : Type 1} → statement M
 explain-poll-spec =

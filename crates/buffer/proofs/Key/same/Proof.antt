@@ -1,10 +1,10 @@
 use borrow.Author.Rules.{rules}
-use Rattle.buffer.proofs.Keys.{address-differs, address_same}
+use Rattle.buffer.proofs.Keys.{address_differs, address_same}
 use Rattle.buffer.proofs.Key.same.Statement.{statement}
 use Rattle.buffer.proofs.Key.same.Tie as tie
 
 returns : tie.Need-returns
-returns c = address-differs _ _ c.if1.true
+returns c = address_differs _ _ c.if1.true
 
 same-requires : tie.Need-same-requires
 same-requires c κs = search rules

@@ -27,7 +27,7 @@ returns : tie.Need-returns
 returns c = search rules
 
 returns-2 : tie.Need-returns-2
-returns-2 c = rw (c.is-for.ensures, c.before.before.self.given.1)
+returns-2 c = rw (c.is_for_lem.ensures, c.before.before.self.given.1)
 
 returns-3 : tie.Need-returns-3
 returns-3 c = rw (c.is-for2.ensures, c.before.before.self2.given.1)

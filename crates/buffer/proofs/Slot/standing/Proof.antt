@@ -28,10 +28,10 @@ returns : tie.Need-returns
 returns c = search rules
 
 returns-2 : tie.Need-returns-2
-returns-2 c = rw (c.before.before.before.self.given.1, sym c.before.is-for.ensures ∙ c.if1.true)
+returns-2 c = rw (c.before.before.before.self.given.1, sym c.before.is_for_lem.ensures ∙ c.if1.true)
 
 returns-3 : tie.Need-returns-3
-returns-3 c = rw (c.before.before.before.self.given.1, sym c.before.is-for.ensures ∙ c.if1.false)
+returns-3 c = rw (c.before.before.before.self.given.1, sym c.before.is_for_lem.ensures ∙ c.if1.false)
 
 returns-4 : tie.Need-returns-4
 returns-4 c = rw (c.before.before.before.self2.given.1, sym c.before.is-for2.ensures ∙ c.if2.true)

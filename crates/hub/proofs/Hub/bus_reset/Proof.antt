@@ -16,7 +16,7 @@ done-requires c κs = search rules
 
 returns : tie.Need-returns
 unfolding within has_space not_silent fitting served step reset_hub
-returns c = rw (c.done.ensures, c.before.empty.ensures, c.before.before.new-ports.ensures)
+returns c = rw (c.done.ensures, c.before.empty.ensures, c.before.before.new_ports_lem.ensures)
 
 pub bus-reset-spec : {M : Type 1} → statement M
 bus-reset-spec = tie.close (tie.spec new-ports-requires empty-requires done-requires returns)

@@ -129,7 +129,7 @@ returns-8 : tie.Need-returns-8
 returns-8 c = rw (c.clear-feature.ensures, c.before.before.request4.given.1)
 
 returns-9 : tie.Need-returns-9
-returns-9 c = rw (c.set-feature.ensures, c.before.before.request5.given.1)
+returns-9 c = rw (c.set_feature_lem.ensures, c.before.before.request5.given.1)
 
 returns-10 : tie.Need-returns-10
 returns-10 c = rw (c.done3.ensures, c.before.with-translator.ensures, c.before.before.clear-buffer.ensures, c.before.before.before.keyed.ensures, c.before.before.before.before.before.request6.given.1)

@@ -2,7 +2,7 @@ use mathlib.Core.Path.{refl, ◌∙◌}
 use Rattle.hub.specs.Call.{Complete}
 use Rattle.hub.specs.Checks.{within, has_space, not_silent, fitting}
 use Rattle.hub.specs.Step.{served}
-use Rattle.hub.proofs.Order.{refused-by, served-by}
+use Rattle.hub.proofs.Order.{refused_by, served_by_lem}
 use borrow.Author.Rules.{rules}
 use Rattle.hub.proofs.Hub.complete_split.Statement.{statement}
 use Rattle.hub.proofs.Hub.complete_split.Tie as tie
@@ -20,7 +20,7 @@ returns : tie.Need-returns
 unfolding within has_space not_silent fitting
 returns c =
     let r = c.before.before in
-    refused-by _ (Complete _ _ _ _ _) c.answer.ensures r.first-refusal.ensures r.before.key-named.ensures refl refl refl
+    refused_by _ (Complete _ _ _ _ _) c.answer.ensures r.first-refusal.ensures r.before.key_named_lem.ensures refl refl refl
     c.before.if1.true
 
 key-of-requires : tie.Need-key-of-requires
@@ -37,7 +37,7 @@ unfolding within has_space not_silent fitting served
 returns-2 c =
     let k = c.before.before in
     let r = k.before.before in
-    served-by _ (Complete _ _ _ _ _) r.first-refusal.ensures r.before.key-named.ensures refl refl refl
+    served_by_lem _ (Complete _ _ _ _ _) r.first-refusal.ensures r.before.key_named_lem.ensures refl refl refl
     k.before.if1.false (c.completed.ensures ∙ rw (c.before.complete-split.ensures, k.key_of.ensures))
 
 pub complete-split-spec : {M : Type 1} → statement M

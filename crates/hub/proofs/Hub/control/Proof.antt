@@ -4,8 +4,8 @@ use mathlib.Core.Path.{refl, ◌∙◌}
 use Rattle.hub.specs.Call.{Control}
 use Rattle.hub.specs.Checks.{within, has_space, not_silent, fitting}
 use Rattle.hub.specs.Step.{served}
-use Rattle.hub.proofs.Calls.{control-served}
-use Rattle.hub.proofs.Order.{refused-by, served-by}
+use Rattle.hub.proofs.Calls.{control_served}
+use Rattle.hub.proofs.Order.{refused_by, served_by_lem}
 use borrow.Author.Rules.{rules}
 use Rattle.hub.proofs.Hub.control.Statement.{statement}
 use Rattle.hub.proofs.Hub.control.Tie as tie
@@ -26,7 +26,7 @@ returns : tie.Need-returns
 unfolding within has_space not_silent fitting
 returns c =
     let r = c.before.before in
-    refused-by _ (Control _ _ _) c.answer.ensures r.first-refusal.ensures (r.before.both.ensures ∙ rw r.before.before.is-lane.ensures) refl refl refl
+    refused_by _ (Control _ _ _) c.answer.ensures r.first-refusal.ensures (r.before.both.ensures ∙ rw r.before.before.is_lane_lem.ensures) refl refl refl
     (λ z. omega (arith, z, rw (r.before.both.ensures, ne_eqb _ 8 c.before.if1.true) at r.first-refusal.ensures))
 
 answer-requires-2 : tie.Need-answer-requires-2
@@ -34,7 +34,7 @@ answer-requires-2 c κs = search rules
 
 returns-2 : tie.Need-returns-2
 unfolding within has_space not_silent fitting
-returns-2 c = refused-by _ (Control _ _ _) c.answer2.ensures c.before.before.before.first-refusal.ensures (c.before.before.before.before.both.ensures ∙ rw c.before.before.before.before.before.is-lane.ensures) refl refl refl c.before.if2.true
+returns-2 c = refused_by _ (Control _ _ _) c.answer2.ensures c.before.before.before.first-refusal.ensures (c.before.before.before.before.both.ensures ∙ rw c.before.before.before.before.before.is_lane_lem.ensures) refl refl refl c.before.if2.true
 
 shared-slice-read-t13 : tie.Need-shared-slice-read-t13
 shared-slice-read-t13 c = search rules
@@ -78,8 +78,8 @@ returns-3 c =
     let i = c.before.before.before.before.before.before.before.before.before.before.before.before in
     let r = i.before.before in
     let a = r.before.before.before.before.args in
-    served-by _ (Control _ _ _) r.first-refusal.ensures (r.before.both.ensures ∙ rw r.before.before.is-lane.ensures) refl refl refl i.if2.false
-    (control-served _ a.lane a.setup.now c.serve.ensures c.before.before.before.lane_of.ensures (c.before.read.ensures ∙ rw c.before.before.port-count.ensures))
+    served_by_lem _ (Control _ _ _) r.first-refusal.ensures (r.before.both.ensures ∙ rw r.before.before.is_lane_lem.ensures) refl refl refl i.if2.false
+    (control_served _ a.lane a.setup.now c.serve.ensures c.before.before.before.lane_of.ensures (c.before.read.ensures ∙ rw c.before.before.port-count.ensures))
 
 pub control-spec : {M : Type 1} → statement M
 control-spec =

@@ -1,9 +1,9 @@
-use Rattle.hub.proofs.Calls.{deliver-fits}
+use Rattle.hub.proofs.Calls.{deliver_fits}
 use mathlib.Core.Path.{refl, ◌∙◌}
 use Rattle.hub.specs.Call.{Deliver}
 use Rattle.hub.specs.Checks.{within, has_space, not_silent, fitting}
 use Rattle.hub.specs.Step.{served}
-use Rattle.hub.proofs.Order.{refused-by, served-by}
+use Rattle.hub.proofs.Order.{refused_by, served_by_lem}
 use borrow.Author.Rules.{rules}
 use Rattle.hub.proofs.Hub.deliver.Statement.{statement}
 use Rattle.hub.proofs.Hub.deliver.Tie as tie
@@ -40,8 +40,8 @@ returns c =
     let d = n.before.before in
     let w = d.before in
     let k = w.before.before.before in
-    refused-by _ (Deliver _ _) c.answer.ensures r.first-refusal.ensures (w.both.ensures ∙ rw (w.before.before.is-result.ensures, w.before.carries.ensures, k.result-of.ensures)) refl refl
-    (deliver-fits _ _ _ n.deliver-answer.ensures d.deliver.ensures k.result-of.ensures) c.before.if1.true
+    refused_by _ (Deliver _ _) c.answer.ensures r.first-refusal.ensures (w.both.ensures ∙ rw (w.before.before.is_result_lem.ensures, w.before.carries.ensures, k.result-of.ensures)) refl refl
+    (deliver_fits _ _ _ n.deliver-answer.ensures d.deliver.ensures k.result-of.ensures) c.before.if1.true
 
 with-translator-requires : tie.Need-with-translator-requires
 with-translator-requires c κs = search rules
@@ -57,8 +57,8 @@ returns-2 c =
     let d = n.before.before in
     let w = d.before in
     let k = w.before.before.before in
-    served-by _ (Deliver _ _) r.first-refusal.ensures (w.both.ensures ∙ rw (w.before.before.is-result.ensures, w.before.carries.ensures, k.result-of.ensures)) refl refl
-    (deliver-fits _ _ _ n.deliver-answer.ensures d.deliver.ensures k.result-of.ensures) c.before.before.if1.false
+    served_by_lem _ (Deliver _ _) r.first-refusal.ensures (w.both.ensures ∙ rw (w.before.before.is_result_lem.ensures, w.before.carries.ensures, k.result-of.ensures)) refl refl
+    (deliver_fits _ _ _ n.deliver-answer.ensures d.deliver.ensures k.result-of.ensures) c.before.before.if1.false
     (rw (c.answer2.ensures, c.before.with-translator.ensures, n.deliver-answer.ensures, d.deliver.ensures, k.result-of.ensures))
 
 pub deliver-spec : {M : Type 1} → statement M

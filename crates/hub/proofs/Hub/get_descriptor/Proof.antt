@@ -1,7 +1,7 @@
 use native.Mathlib.Omega.{arith}
 use lib.Seq.{length-take-le}
 use mathlib.Core.Path.{sym}
-use Rattle.hub.proofs.Calls.{descriptor-cut}
+use Rattle.hub.proofs.Calls.{descriptor_cut}
 use borrow.Author.Rules.{rules}
 use Rattle.hub.proofs.Hub.get_descriptor.Statement.{statement}
 use Rattle.hub.proofs.Hub.get_descriptor.Tie as tie
@@ -22,7 +22,7 @@ give-data-requires : tie.Need-give-data-requires
 give-data-requires c κs = search rules
 
 returns : tie.Need-returns
-returns c = descriptor-cut _ _ c.give-data.ensures c.before.of.ensures c.before.before.before.cut.ensures
+returns c = descriptor_cut _ _ c.give-data.ensures c.before.of.ensures c.before.before.before.cut.ensures
 
 pub get-descriptor-spec : {M : Type 1} → statement M
 get-descriptor-spec =

@@ -1,9 +1,9 @@
-use Rattle.hub.proofs.Calls.{launch-fits}
+use Rattle.hub.proofs.Calls.{launch_fits}
 use mathlib.Core.Path.{refl, ◌∙◌}
 use Rattle.hub.specs.Call.{Launch}
 use Rattle.hub.specs.Checks.{within, has_space, not_silent, fitting}
 use Rattle.hub.specs.Step.{served}
-use Rattle.hub.proofs.Order.{refused-by, served-by}
+use Rattle.hub.proofs.Order.{refused_by, served_by_lem}
 use borrow.Author.Rules.{rules}
 use Rattle.hub.proofs.Hub.launch.Statement.{statement}
 use Rattle.hub.proofs.Hub.launch.Tie as tie
@@ -25,7 +25,7 @@ unfolding within has_space not_silent fitting
 returns c =
     let r = c.before.before in
     let l = r.before.before in
-    refused-by _ (Launch _) c.answer.ensures r.first-refusal.ensures refl refl refl (launch-fits _ r.before.launch-answer.ensures l.launch.ensures)
+    refused_by _ (Launch _) c.answer.ensures r.first-refusal.ensures refl refl refl (launch_fits _ r.before.launch-answer.ensures l.launch.ensures)
     c.before.if1.true
 
 launched-requires : tie.Need-launched-requires
@@ -36,7 +36,7 @@ unfolding within has_space not_silent fitting served
 returns-2 c =
     let r = c.before.before in
     let l = r.before.before in
-    served-by _ (Launch _) r.first-refusal.ensures refl refl refl (launch-fits _ r.before.launch-answer.ensures l.launch.ensures)
+    served_by_lem _ (Launch _) r.first-refusal.ensures refl refl refl (launch_fits _ r.before.launch-answer.ensures l.launch.ensures)
     c.before.if1.false (c.launched.ensures ∙ rw l.launch.ensures)
 
 pub launch-spec : {M : Type 1} → statement M

@@ -1,6 +1,6 @@
 use mathlib.Core.Path.{◌∙◌}
 use Rattle.hub.specs.Checks.{within}
-use Rattle.hub.proofs.Calls.{event-refused, event-stepped, event-at}
+use Rattle.hub.proofs.Calls.{event_refused, event_stepped, event_at_lem}
 use borrow.Author.Rules.{rules}
 use Rattle.hub.proofs.Hub.line_event.Statement.{statement}
 use Rattle.hub.proofs.Hub.line_event.Tie as tie
@@ -28,7 +28,7 @@ unfolding within
 returns c =
     let r = c.before.before in
     let w = r.before in
-    event-refused _ _ _ c.answer.ensures r.first-refusal.ensures
+    event_refused _ _ _ c.answer.ensures r.first-refusal.ensures
     (w.both.ensures ∙ rw (w.before.port-named.ensures, w.before.before.port-count.ensures, w.before.before.before.is-event.ensures))
     c.before.if1.true
 
@@ -50,10 +50,10 @@ returns-2 c =
     let r = c.before.before.before.before.before in
     let w = r.before in
     let a = w.before.before.before.before.args in
-    event-stepped _ _ _ r.first-refusal.ensures
+    event_stepped _ _ _ r.first-refusal.ensures
     (w.both.ensures ∙ rw (w.before.port-named.ensures, w.before.before.port-count.ensures, w.before.before.before.is-event.ensures))
     c.before.before.before.before.if1.false
-    (event-at a.self a.event a.port c.with-step.ensures c.before.line-event.ensures c.before.before.before.port.ensures c.before.before.event-of.ensures)
+    (event_at_lem a.self a.event a.port c.with-step.ensures c.before.line-event.ensures c.before.before.before.port.ensures c.before.before.event-of.ensures)
 
 pub line-event-spec : {M : Type 1} → statement M
 line-event-spec =

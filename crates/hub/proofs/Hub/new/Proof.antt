@@ -1,4 +1,4 @@
-use Rattle.hub.proofs.Numbers.{new-made}
+use Rattle.hub.proofs.Numbers.{new_made}
 use Rattle.hub.specs.Hub.{new_hub}
 use mathlib.Core.Path.{sym, ◌∙◌}
 use borrow.Author.Rules.{rules}
@@ -27,7 +27,7 @@ hub-of-requires : tie.Need-hub-of-requires
 hub-of-requires c κs = search rules
 
 returns : tie.Need-returns
-returns c = new-made _ _ _ _ _ c.hub-of.ensures c.before.before.can-be-made.ensures c.before.if1.true
+returns c = new_made _ _ _ _ _ c.hub-of.ensures c.before.before.can-be-made.ensures c.before.if1.true
 
 hub-of-requires-2 : tie.Need-hub-of-requires-2
 hub-of-requires-2 c κs = search rules

@@ -16,7 +16,7 @@ with-step-requires c κs = search rules
 returns : tie.Need-returns
 returns c =
     let a = c.before.before.before.args in
-    c.with-step.ensures ∙ ap (stepped_at a.self a.n) c.before.set-feature.ensures ∙ rw c.before.before.port.ensures
+    c.with-step.ensures ∙ ap (stepped_at a.self a.n) c.before.set_feature_lem.ensures ∙ rw c.before.before.port.ensures
 
 pub set-feature-spec : {M : Type 1} → statement M
 set-feature-spec =

@@ -2,7 +2,7 @@ use mathlib.Core.Path.{refl, ◌∙◌}
 use Rattle.hub.specs.Call.{Start}
 use Rattle.hub.specs.Checks.{within, has_space, not_silent, fitting}
 use Rattle.hub.specs.Step.{served}
-use Rattle.hub.proofs.Order.{refused-by, served-by}
+use Rattle.hub.proofs.Order.{refused_by, served_by_lem}
 use borrow.Author.Rules.{rules}
 use Rattle.hub.proofs.Hub.start_split.Statement.{statement}
 use Rattle.hub.proofs.Hub.start_split.Tie as tie
@@ -31,7 +31,7 @@ returns c =
     let r = c.before.before in
     let w = r.before in
     let s = w.before.before.before in
-    refused-by _ (Start _ _ _ _ _ _ _ _) c.answer.ensures r.first-refusal.ensures (w.both.ensures ∙ rw (w.before.fits2.ensures, w.before.before.split-named.ensures, s.split-of.ensures)) refl refl refl
+    refused_by _ (Start _ _ _ _ _ _ _ _) c.answer.ensures r.first-refusal.ensures (w.both.ensures ∙ rw (w.before.fits2.ensures, w.before.before.split_named_lem.ensures, s.split-of.ensures)) refl refl refl
     c.before.if1.true
 
 start-split-requires : tie.Need-start-split-requires
@@ -53,7 +53,7 @@ returns-2 c =
     let r = t.before.before in
     let w = r.before in
     let s = w.before.before.before in
-    served-by _ (Start _ _ _ _ _ _ _ _) r.first-refusal.ensures (w.both.ensures ∙ rw (w.before.fits2.ensures, w.before.before.split-named.ensures, s.split-of.ensures)) refl refl refl
+    served_by_lem _ (Start _ _ _ _ _ _ _ _) r.first-refusal.ensures (w.both.ensures ∙ rw (w.before.fits2.ensures, w.before.before.split_named_lem.ensures, s.split-of.ensures)) refl refl refl
     t.before.if1.false
     (rw (c.answer2.ensures, c.before.start-answer.ensures, c.before.before.with-translator.ensures, t.start-split.ensures, s.split-of.ensures))
 

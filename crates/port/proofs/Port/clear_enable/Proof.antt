@@ -1,4 +1,4 @@
-use Rattle.port.proofs.Arms.{serves-port}
+use Rattle.port.proofs.Arms.{serves_port}
 use mathlib.Core.List.{[], ◌∷◌}
 use mathlib.Core.Path.{refl}
 use Rattle.port.specs.Features.{clear_enable}
@@ -22,7 +22,7 @@ enum-known-state-4 c = search rules
 returns : tie.Need-returns
 returns c =
     let p = c.before.before.args.self in
-    serves-port p clear_enable (λ s. done s p.overcurrent []) (0 ∷ 1 ∷ 2 ∷ 3 ∷ []) c.match.keys5 (λ v t. refl)
+    serves_port p clear_enable (λ s. done s p.overcurrent []) (0 ∷ 1 ∷ 2 ∷ 3 ∷ []) c.match.keys5 (λ v t. refl)
 
 returns-2 : tie.Need-returns-2
 returns-2 c = rw c.before.state.given.1

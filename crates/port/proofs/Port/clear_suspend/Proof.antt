@@ -1,4 +1,4 @@
-use Rattle.port.proofs.Arms.{serves-port}
+use Rattle.port.proofs.Arms.{serves_port}
 use mathlib.Core.List.{[], ◌∷◌}
 use mathlib.Core.Path.{refl}
 use Rattle.port.specs.Features.{clear_suspend}
@@ -16,7 +16,7 @@ returns c = rw c.before.state.given.1
 returns-2 : tie.Need-returns-2
 returns-2 c =
     let p = c.before.before.args.self in
-    serves-port p clear_suspend (λ s. done s p.overcurrent []) (0 ∷ 1 ∷ 2 ∷ 3 ∷ 4 ∷ 5 ∷ 7 ∷ []) c.match.keys2 (λ v t. refl)
+    serves_port p clear_suspend (λ s. done s p.overcurrent []) (0 ∷ 1 ∷ 2 ∷ 3 ∷ 4 ∷ 5 ∷ 7 ∷ []) c.match.keys2 (λ v t. refl)
 
 pub clear-suspend-spec : {M : Type 1} → statement M
 clear-suspend-spec = tie.close (tie.spec enum-known-state returns returns-2)

@@ -66,7 +66,7 @@ returns-5 : tie.Need-returns-5
 returns-5 c = rw c.before.enum-told5.given.1 c.wake.ensures
 
 returns-6 : tie.Need-returns-6
-returns-6 c = rw c.before.enum-told6.given.1 c.port-error.ensures
+returns-6 c = rw c.before.enum-told6.given.1 c.port_error_lem.ensures
 
 returns-7 : tie.Need-returns-7
 returns-7 c = rw c.before.enum-told7.given.1 c.over-current-on.ensures

@@ -1,4 +1,4 @@
-use Rattle.port.proofs.Arms.{serves-port}
+use Rattle.port.proofs.Arms.{serves_port}
 use mathlib.Core.List.{[], ◌∷◌}
 use mathlib.Core.Path.{refl}
 use Rattle.port.specs.Features.{set_reset}
@@ -32,7 +32,7 @@ returns c = rw c.before.state5.given.1
 returns-2 : tie.Need-returns-2
 returns-2 c =
     let p = c.before.before.args.self in
-    serves-port p set_reset (λ s. done s p.overcurrent []) (0 ∷ 1 ∷ 2 ∷ []) c.match.keys6 (λ v t. refl)
+    serves_port p set_reset (λ s. done s p.overcurrent []) (0 ∷ 1 ∷ 2 ∷ []) c.match.keys6 (λ v t. refl)
 
 returns-3 : tie.Need-returns-3
 returns-3 c =

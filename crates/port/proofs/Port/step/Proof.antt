@@ -56,7 +56,7 @@ returns-2 : tie.Need-returns-2
 returns-2 c = rw c.before.enum_told.given.1 c.tick.ensures
 
 returns-3 : tie.Need-returns-3
-returns-3 c = rw c.before.before.input2.given.1 c.set-feature.ensures
+returns-3 c = rw c.before.before.input2.given.1 c.set_feature_lem.ensures
 
 returns-4 : tie.Need-returns-4
 returns-4 c = rw c.before.before.input3.given.1 c.clear-feature.ensures

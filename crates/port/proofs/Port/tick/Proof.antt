@@ -1,4 +1,4 @@
-use Rattle.port.proofs.Arms.{serves-port}
+use Rattle.port.proofs.Arms.{serves_port}
 use mathlib.Core.List.{[], ◌∷◌}
 use mathlib.Core.Path.{refl, ap, ◌∙◌}
 use Rattle.port.specs.Tick.{tick}
@@ -51,7 +51,7 @@ returns-5 : tie.Need-returns-5
 returns-5 c =
     let p = c.before.before.before.args.self in
     c.done-with.ensures
-    ∙ ap done_with (serves-port p tick (λ s. done s p.overcurrent []) (0 ∷ 1 ∷ 2 ∷ 3 ∷ 5 ∷ 6 ∷ []) c.before.match.keys3 (λ v t. refl))
+    ∙ ap done_with (serves_port p tick (λ s. done s p.overcurrent []) (0 ∷ 1 ∷ 2 ∷ 3 ∷ 5 ∷ 6 ∷ []) c.before.match.keys3 (λ v t. refl))
 
 pub tick-spec : {M : Type 1} → statement M
 tick-spec =

@@ -25,10 +25,10 @@ enum-known-self-4 : tie.Need-enum-known-self-4
 enum-known-self-4 c = search rules
 
 returns : tie.Need-returns
-returns c = rw (c.before.before.before.self.given.1, sym c.before.may-store.ensures ∙ c.if1.true)
+returns c = rw (c.before.before.before.self.given.1, sym c.before.may_store_lem.ensures ∙ c.if1.true)
 
 returns-2 : tie.Need-returns-2
-returns-2 c = rw (c.before.before.before.self.given.1, sym c.before.may-store.ensures ∙ c.if1.false)
+returns-2 c = rw (c.before.before.before.self.given.1, sym c.before.may_store_lem.ensures ∙ c.if1.false)
 
 returns-3 : tie.Need-returns-3
 returns-3 c = rw (c.before.before.before.self2.given.1, sym c.before.may-store2.ensures ∙ c.if2.true)

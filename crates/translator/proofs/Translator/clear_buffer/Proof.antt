@@ -30,7 +30,7 @@ returns c = rw (← c.before.before.holder.ensures, c.enum_told.given.1)
 
 returns-2 : tie.Need-returns-2
 unfolding clear_buffer
-returns-2 c = rw (c.with-low.ensures, c.before.without.ensures, c.before.before.with-buffer.ensures, c.before.before.before.vacant.ensures, ← c.before.before.before.before.before.before.before.holder.ensures, c.before.before.before.before.before.n.given.1)
+returns-2 c = rw (c.with_low_lem.ensures, c.before.without.ensures, c.before.before.with-buffer.ensures, c.before.before.before.vacant.ensures, ← c.before.before.before.before.before.before.before.holder.ensures, c.before.before.before.before.before.n.given.1)
 
 pub clear-buffer-spec : {M : Type 1} → statement M
 clear-buffer-spec =

@@ -24,7 +24,7 @@ returns c = rw (c.none.ensures, ← c.before.before.before.holder.ensures, c.bef
 
 returns-2 : tie.Need-returns-2
 unfolding complete_split
-returns-2 c = rw (c.complete-at.ensures, ← c.before.before.before.before.holder.ensures, c.before.before.n.given.1)
+returns-2 c = rw (c.complete_at_lem.ensures, ← c.before.before.before.before.holder.ensures, c.before.before.n.given.1)
 
 pub complete-split-spec : {M : Type 1} → statement M
 complete-split-spec =

@@ -31,11 +31,11 @@ returns c = rw (c.not-delivered.ensures, sym c.before.before.before.before.carri
 
 returns-2 : tie.Need-returns-2
 unfolding deliver
-returns-2 c = rw (c.deliver-to.ensures, sym c.before.before.before.before.before.carries.ensures ∙ c.before.before.before.before.if1.true, c.before.before.low.given.1)
+returns-2 c = rw (c.deliver_to.ensures, sym c.before.before.before.before.before.carries.ensures ∙ c.before.before.before.before.if1.true, c.before.before.low.given.1)
 
 returns-3 : tie.Need-returns-3
 unfolding deliver
-returns-3 c = rw (c.with-low.ensures, sym c.before.before.before.before.carries.ensures ∙ c.before.before.before.if1.true, c.before.enum-told2.given.1)
+returns-3 c = rw (c.with_low_lem.ensures, sym c.before.before.before.before.carries.ensures ∙ c.before.before.before.if1.true, c.before.enum-told2.given.1)
 
 returns-4 : tie.Need-returns-4
 unfolding deliver

@@ -46,7 +46,7 @@ returns : tie.Need-returns
 returns c = rw (c.not-delivered.ensures, ← c.before.before.before.buffer.ensures, c.before.enum_told.given.1)
 
 returns-2 : tie.Need-returns-2
-returns-2 c = rw (c.with-low.ensures, c.before.with-buffer.ensures, c.before.before.of.ensures, ← c.before.before.before.before.before.before.before.before.buffer.ensures, c.before.before.before.before.before.before.slot.given.1, sym c.before.before.before.before.suits.ensures ∙ c.before.before.before.if1.true)
+returns-2 c = rw (c.with_low_lem.ensures, c.before.with-buffer.ensures, c.before.before.of.ensures, ← c.before.before.before.before.before.before.before.before.buffer.ensures, c.before.before.before.before.before.before.slot.given.1, sym c.before.before.before.before.suits.ensures ∙ c.before.before.before.if1.true)
 
 returns-3 : tie.Need-returns-3
 returns-3 c = rw (c.not-delivered2.ensures, ← c.before.before.before.before.before.before.buffer.ensures, c.before.before.before.before.slot.given.1, sym c.before.before.suits.ensures ∙ c.before.if1.false)

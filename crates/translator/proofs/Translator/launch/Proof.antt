@@ -39,7 +39,7 @@ returns c = rw (c.no-launch.ensures, c.before.before.before.before.enum_told.giv
 
 returns-2 : tie.Need-returns-2
 unfolding launch
-returns-2 c = rw (c.launch-at.ensures, c.before.before.before.before.before.enum_told.given.1, ← c.before.before.before.before.earliest.ensures, c.before.before.n.given.1)
+returns-2 c = rw (c.launch_at_lem.ensures, c.before.before.before.before.before.enum_told.given.1, ← c.before.before.before.before.earliest.ensures, c.before.before.n.given.1)
 
 returns-3 : tie.Need-returns-3
 unfolding launch

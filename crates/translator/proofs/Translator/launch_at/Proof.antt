@@ -33,7 +33,7 @@ returns : tie.Need-returns
 returns c = rw (c.no-launch.ensures, ← c.before.before.before.before.buffer.ensures, c.before.enum_told.given.1)
 
 returns-2 : tie.Need-returns-2
-returns-2 c = rw (c.with-low.ensures, ← c.before.before.before.before.before.buffer.ensures, c.before.before.slot.given.1)
+returns-2 c = rw (c.with_low_lem.ensures, ← c.before.before.before.before.before.buffer.ensures, c.before.before.slot.given.1)
 
 returns-3 : tie.Need-returns-3
 returns-3 c = rw (c.no-launch2.ensures, ← c.before.before.before.before.buffer.ensures, c.before.enum-told2.given.1)

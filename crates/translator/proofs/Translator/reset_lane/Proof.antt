@@ -1,6 +1,6 @@
 use mathlib.Core.Path.{◌≡◌}
 use lib.ListN.{length}
-use Rattle.translator.proofs.Lists.{unmapped, reset-four, put-together}
+use Rattle.translator.proofs.Lists.{unmapped, reset_four, put_together}
 use borrow.Author.Rules.{rules}
 use Rattle.translator.proofs.Translator.reset_lane.Statement.{statement}
 use Rattle.translator.proofs.Translator.reset_lane.Tie as tie
@@ -36,8 +36,8 @@ returns : tie.Need-returns
 returns c =
     let s = c.before.before.before.before.before.before.before.before.before.before in
     let l : length s.args.self.buffers ≡ 4 = search (unmapped, rules) in
-    put-together s.args.self s.args.lane
-    (reset-four _ s.args.self.buffers l s.args.lane c.before.before.before.before.before.before.before.without-lane.ensures c.before.before.before.before.before.without-lane2.ensures c.before.before.before.without-lane3.ensures c.before.without-lane4.ensures)
+    put_together s.args.self s.args.lane
+    (reset_four _ s.args.self.buffers l s.args.lane c.before.before.before.before.before.before.before.without-lane.ensures c.before.before.before.before.before.without-lane2.ensures c.before.before.before.without-lane3.ensures c.before.without-lane4.ensures)
     c.low-without-lane.ensures
 
 pub reset-lane-spec : {M : Type 1} → statement M

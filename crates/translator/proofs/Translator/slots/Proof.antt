@@ -1,6 +1,6 @@
 use mathlib.Core.Path.{◌≡◌}
 use lib.ListN.{length}
-use Rattle.translator.proofs.Lists.{unmapped, slots-four}
+use Rattle.translator.proofs.Lists.{unmapped, slots_four}
 use borrow.Author.Rules.{rules}
 use Rattle.translator.proofs.Translator.slots.Statement.{statement}
 use Rattle.translator.proofs.Translator.slots.Tie as tie
@@ -21,7 +21,7 @@ returns : tie.Need-returns
 returns c =
     let bs = c.before.before.before.before.before.args.self.buffers in
     let n : length bs ≡ 4 = search (unmapped, rules) in
-    slots-four _ bs n
+    slots_four _ bs n
 
 pub slots-spec : {M : Type 1} → statement M
 slots-spec =

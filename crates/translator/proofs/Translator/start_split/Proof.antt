@@ -1,7 +1,7 @@
 use mathlib.Core.Path.{sym, ◌∙◌}
 use Rattle.translator.specs.declared.Choice.TheVariants.{NoRoom, LimitReached, Held, Reused, Took}
 use Rattle.translator.specs.StartSplit.{start_split}
-use Rattle.translator.proofs.StartSplit.{by-choice}
+use Rattle.translator.proofs.StartSplit.{by_choice}
 use borrow.Author.Rules.{rules}
 use Rattle.translator.proofs.Translator.start_split.Statement.{statement}
 use Rattle.translator.proofs.Translator.start_split.Tie as tie
@@ -37,19 +37,19 @@ store-requires-2 : tie.Need-store-requires-2
 store-requires-2 c κs = search rules
 
 returns : tie.Need-returns
-returns c = by-choice _ _ _ NoRoom (sym c.before.before.before.before.before.fits2.ensures ∙ c.before.before.before.before.if1.true) c.before.before.before.key.ensures (sym c.enum_told.given.1 ∙ c.before.before.choose.ensures)
+returns c = by_choice _ _ _ NoRoom (sym c.before.before.before.before.before.fits2.ensures ∙ c.before.before.before.before.if1.true) c.before.before.before.key.ensures (sym c.enum_told.given.1 ∙ c.before.before.choose.ensures)
 
 returns-2 : tie.Need-returns-2
-returns-2 c = by-choice _ _ _ LimitReached (sym c.before.before.before.before.before.fits2.ensures ∙ c.before.before.before.before.if1.true) c.before.before.before.key.ensures (sym c.enum-told2.given.1 ∙ c.before.before.choose.ensures)
+returns-2 c = by_choice _ _ _ LimitReached (sym c.before.before.before.before.before.fits2.ensures ∙ c.before.before.before.before.if1.true) c.before.before.before.key.ensures (sym c.enum-told2.given.1 ∙ c.before.before.choose.ensures)
 
 returns-3 : tie.Need-returns-3
-returns-3 c = by-choice _ _ _ (Held c.before.choice.given.0.0) (sym c.before.before.before.before.before.before.fits2.ensures ∙ c.before.before.before.before.before.if1.true) c.before.before.before.before.key.ensures (sym c.before.choice.given.1 ∙ c.before.before.before.choose.ensures)
+returns-3 c = by_choice _ _ _ (Held c.before.choice.given.0.0) (sym c.before.before.before.before.before.before.fits2.ensures ∙ c.before.before.before.before.before.if1.true) c.before.before.before.before.key.ensures (sym c.before.choice.given.1 ∙ c.before.before.before.choose.ensures)
 
 returns-4 : tie.Need-returns-4
-returns-4 c = rw c.store.ensures (by-choice _ _ _ (Reused c.before.before.choice2.given.0.0) (sym c.before.before.before.before.before.before.before.fits2.ensures ∙ c.before.before.before.before.before.before.if1.true) c.before.before.before.before.before.key.ensures (sym c.before.before.choice2.given.1 ∙ c.before.before.before.before.choose.ensures))
+returns-4 c = rw c.store.ensures (by_choice _ _ _ (Reused c.before.before.choice2.given.0.0) (sym c.before.before.before.before.before.before.before.fits2.ensures ∙ c.before.before.before.before.before.before.if1.true) c.before.before.before.before.before.key.ensures (sym c.before.before.choice2.given.1 ∙ c.before.before.before.before.choose.ensures))
 
 returns-5 : tie.Need-returns-5
-returns-5 c = rw c.store2.ensures (by-choice _ _ _ (Took c.before.before.choice3.given.0.0) (sym c.before.before.before.before.before.before.before.fits2.ensures ∙ c.before.before.before.before.before.before.if1.true) c.before.before.before.before.before.key.ensures (sym c.before.before.choice3.given.1 ∙ c.before.before.before.before.choose.ensures))
+returns-5 c = rw c.store2.ensures (by_choice _ _ _ (Took c.before.before.choice3.given.0.0) (sym c.before.before.before.before.before.before.before.fits2.ensures ∙ c.before.before.before.before.before.before.if1.true) c.before.before.before.before.before.key.ensures (sym c.before.before.choice3.given.1 ∙ c.before.before.before.before.choose.ensures))
 
 returns-6 : tie.Need-returns-6
 unfolding start_split
