@@ -1,4 +1,6 @@
 // Tests as values: both operands are computed, so that a rule made of tests has no branch.
+#![tactic(auto)]
+
 ghost use Rattle.std.specs.Prelude.{◌≡◌, ◌&&◌, ◌||◌, ◌+◌, ◌≤◌};
 ghost use Rattle.bools.specs.Bit.{bit};
 

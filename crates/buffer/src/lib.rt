@@ -1,4 +1,6 @@
 // Keys, start-splits, results, and one buffer of the transaction translator, by value.
+#![tactic(auto)]
+
 ghost use Rattle.std.specs.Prelude.{◌≡◌};
 ghost use Rattle.buffer.specs.Same.{same_direction, same_key};
 ghost use Rattle.buffer.specs.Claims.{KeyTest};
@@ -10,32 +12,32 @@ ghost use Rattle.buffer.specs.Buffer.{vacant, in_lane, active_in, holds};
 use payload::Payload;
 
 // The number of a buffer, counted from 0. No port number and no device address can stand for it.
-#[derive(Drop)]
+#[derive(Clone, Copy)]
 pub struct BufferNumber(pub u8);
 
 // How many buffers a translator has.
-#[derive(Drop)]
+#[derive(Clone, Copy)]
 pub struct BufferCount(pub u8);
 
 // The address of a device on the bus, 0 to 127.
-#[derive(Drop)]
+#[derive(Clone, Copy)]
 pub struct DeviceAddress(pub u8);
 
 // The way in of one of the two computers (an upstream facing port, in USB's words).
-#[derive(Drop)]
+#[derive(Clone, Copy)]
 pub enum Lane {
     Zero,
     One,
 }
 
-#[derive(Drop)]
+#[derive(Clone, Copy)]
 pub enum Direction {
     Out,
     In,
 }
 
 // What a buffer is held under.
-#[derive(Drop)]
+#[derive(Clone, Copy)]
 pub struct Key {
     pub lane: Lane,
     pub address: DeviceAddress,
@@ -44,21 +46,21 @@ pub struct Key {
 }
 
 // The PID of a start-split's token.
-#[derive(Drop)]
+#[derive(Clone, Copy)]
 pub enum Pid {
     Out,
     In,
     Setup,
 }
 
-#[derive(Drop)]
+#[derive(Clone, Copy)]
 pub enum TransferType {
     Control,
     Bulk,
 }
 
 // What a start-split asks for, its payload apart. The key follows from it, so that key and PID agree.
-#[derive(Drop)]
+#[derive(Clone, Copy)]
 pub struct StartSplit {
     pub lane: Lane,
     pub pid: Pid,
@@ -70,7 +72,7 @@ pub struct StartSplit {
 }
 
 // What came of a transaction on the full- or low-speed bus.
-#[derive(Drop)]
+#[derive(Clone, Copy)]
 pub enum DeviceResult {
     Failure,
     Ack,
@@ -81,7 +83,7 @@ pub enum DeviceResult {
 }
 
 // A pending buffer has a place in the order of acceptance.
-#[derive(Drop)]
+#[derive(Clone, Copy)]
 pub enum Slot {
     Empty,
     Pending(StartSplit, u8),
@@ -90,14 +92,14 @@ pub enum Slot {
 }
 
 // The payload is the start-split's while the buffer is pending, and then the result's.
-#[derive(Drop)]
+#[derive(Clone, Copy)]
 pub struct Buffer {
     pub slot: Slot,
     pub payload: Payload,
 }
 
 // How a buffer stands to a key that is looked for.
-#[derive(Drop)]
+#[derive(Clone, Copy)]
 pub enum Standing {
     // pending or ready under another key
     Busy,
@@ -211,6 +213,7 @@ impl StartSplit {
     }
 
     // Whether its numbers are within the rules.
+    #[tactic(auto, unfolding(crate::specs::Lengths::numbers_fit))]
     pub fn has_numbers(self) -> bool
         ensures { result ≡ numbers_fit self }
     {
@@ -223,6 +226,7 @@ impl StartSplit {
     }
 
     // Whether its numbers are within the rules, with a payload of so many bytes.
+    #[tactic(auto, unfolding(crate::specs::Lengths::start_fits))]
     pub fn fits(self, len: usize) -> bool
         ensures { result ≡ start_fits self len }
     {
@@ -272,6 +276,7 @@ impl DeviceResult {
     }
 
     // Whether a result of this kind carries so many bytes.
+    #[tactic(auto, unfolding(crate::specs::Lengths::result_length))]
     pub fn carries(self, len: usize) -> bool
         ensures { result ≡ result_length self len }
     {

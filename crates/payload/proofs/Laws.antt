@@ -6,7 +6,7 @@ use mathlib.Core.List.{List, [], ◌∷◌, ◌++◌}
 use native.Mathlib.Nat.{suc-sub-suc, sub-zero, zero-sub, zero-min, min-zero, suc-min-suc}
 use native.Mathlib.Omega.{arith}
 use lib.ListN.{length, take, drop, replicate, length-take}
-use lib.Seq.{take-length, length-take-le, take-append_seam, take_all}
+use lib.Seq.{take-length, take-append_seam, take_all}
 use Rattle.payload.specs.declared.Payload.{Payload}
 use Rattle.payload.specs.Payload.{padded, payload_of, content, written}
 
@@ -38,26 +38,25 @@ unfolding padded
 over_zeros l = rw (take-length, drop-replicate)
 
 pub made : (s : List ℕ) {n : ℕ} {b : List ℕ} → n ≡ min (length s) 64
-    → b ≡ take (length (take n s)) (take n s) ++ drop (length (take n s)) (replicate 64 0)
+    → b ≡ take n s ++ drop n (replicate 64 0)
     → record { len = n; bytes = b } ≡ payload_of s
-unfolding payload_of
+unfolding payload_of padded
 made s {n} {b} e f =
     let t : take n s ≡ take 64 s = ap (λ (k : ℕ). take k s) e ∙ take_min 64 s in
     let l : n ≡ length (take 64 s) = simp length-take (omega arith) in
-    rw (f, t, over_zeros (take 64 s), l)
+    rw (f, t, l, drop-replicate)
 
 -- the first n of the bytes b, at the start of r
 pub gave : (p : Payload) (r : List ℕ) {len n : ℕ} {w : List ℕ} → length p.bytes ≡ 64 → len ≡ min p.len 64 → n ≡ min len (length r)
-    → w ≡ take (length (take n p.bytes)) (take n p.bytes) ++ drop (length (take n p.bytes)) r
+    → w ≡ take n p.bytes ++ drop n r
     → w ≡ written (content p) r
 unfolding written
 gave p r {len} {n} l e f g =
     let a : n ≡ min (length p.bytes) (min p.len (length r)) = omega arith in
     let t : take n p.bytes ≡ take (length r) (content p) =
     ap (λ (k : ℕ). take k p.bytes) a ∙ (take_min (min p.len (length r)) p.bytes ∙ sym (take_both (length r) p.len p.bytes)) in
-    let m : length (take n p.bytes) ≡ n = length-take-le n p.bytes (omega arith) in
     let k : length (content p) ≡ len = simp length-take (omega arith) in
-    g ∙ rw (take-length, m, t, k, f, drop_min)
+    g ∙ rw (t, k, f, drop_min)
 
 -- a payload holds the first 64 bytes, ..
 pub content_taken : (l : List ℕ) → content (payload_of l) ≡ take 64 l

@@ -1,9 +1,11 @@
 // Payloads of at most 64 bytes, by value, and their way into a reply space.
+#![tactic(auto)]
+
 ghost use Rattle.std.specs.Prelude.{◌≡◌, min, length};
 ghost use Rattle.payload.specs.Payload.{no_payload, payload_of, content, written};
 
 // The first `len` bytes count; the bytes behind them are zero.
-#[derive(Drop)]
+#[derive(Clone, Copy)]
 pub struct Payload {
     pub len: u8,
     pub bytes: [u8; 64],
@@ -32,7 +34,7 @@ impl Payload {
     {
         let n = lesser(source.len(), 64);
         let mut bytes = [0u8; 64];
-        bytes::copy(&source[..n], &mut bytes);
+        bytes[..n].copy_from_slice(&source[..n]);
         Payload {
             len: n as u8,
             bytes,
@@ -57,6 +59,6 @@ impl Payload {
         let bytes = self.bytes;
         let len = lesser(self.len as usize, 64);
         let n = lesser(len, reply.len());
-        bytes::copy(&bytes[..n], reply);
+        reply[..n].copy_from_slice(&bytes[..n]);
     }
 }

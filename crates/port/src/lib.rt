@@ -1,4 +1,6 @@
 // One downstream port of the hub, by value: its states, the line events, the 1 ms tick, the port features and the status bytes.
+#![tactic(auto)]
+
 ghost use Rattle.std.specs.Prelude.{◌≡◌, false, [], ◌∷◌, ◌≤◌};
 ghost use Rattle.port.specs.Method.{number_of, answered};
 ghost use Rattle.port.specs.Reaction.{new_port, done_with, ruled};
@@ -48,14 +50,14 @@ ghost use Rattle.port.specs.Claims.{PortClaims};
 ghost use Rattle.port.specs.Mistakes.{EnableMistakesShutOut};
 
 // A port's number, counted from 1.
-#[derive(Drop)]
+#[derive(Clone, Copy)]
 pub struct PortNumber(pub u32);
 
 // How many ports a hub has.
-#[derive(Drop)]
+#[derive(Clone, Copy)]
 pub struct PortCount(pub u8);
 
-#[derive(Drop)]
+#[derive(Clone, Copy)]
 pub enum Speed {
     Low,
     Full,
@@ -63,7 +65,7 @@ pub enum Speed {
 }
 
 // A connected state has the speed; Resetting and Resuming have the ticks so far.
-#[derive(Drop)]
+#[derive(Clone, Copy)]
 pub enum PortState {
     NotConfigured,
     PoweredOff,
@@ -75,7 +77,7 @@ pub enum PortState {
     Resuming(Speed, u8),
 }
 
-#[derive(Drop)]
+#[derive(Clone, Copy)]
 pub enum ChangeBit {
     Connection,
     Enable,
@@ -85,7 +87,7 @@ pub enum ChangeBit {
 }
 
 // C_PORT_CONNECTION, C_PORT_ENABLE, C_PORT_SUSPEND, C_PORT_OVER_CURRENT and C_PORT_RESET.
-#[derive(Drop)]
+#[derive(Clone, Copy)]
 pub struct Changes {
     pub connection: bool,
     pub enable: bool,
@@ -95,14 +97,14 @@ pub struct Changes {
 }
 
 // overcurrent is the over-current level.
-#[derive(Drop)]
+#[derive(Clone, Copy)]
 pub struct Port {
     pub state: PortState,
     pub overcurrent: bool,
     pub changes: Changes,
 }
 
-#[derive(Drop)]
+#[derive(Clone, Copy)]
 pub enum LineEvent {
     AttachLow,
     AttachFull,
@@ -114,14 +116,14 @@ pub enum LineEvent {
     OverCurrentOff,
 }
 
-#[derive(Drop)]
+#[derive(Clone, Copy)]
 pub enum SettableFeature {
     Suspend,
     Reset,
     Power,
 }
 
-#[derive(Drop)]
+#[derive(Clone, Copy)]
 pub enum ClearableFeature {
     Enable,
     Suspend,
@@ -130,7 +132,7 @@ pub enum ClearableFeature {
 }
 
 // All that acts on a port: line events, the 1 ms tick, SetPortFeature and ClearPortFeature, SetConfiguration 1 and 0, bus reset.
-#[derive(Drop)]
+#[derive(Clone, Copy)]
 pub enum Input {
     Event(LineEvent),
     Tick,
@@ -142,14 +144,14 @@ pub enum Input {
 }
 
 // What a step of a port answers; only a line event can be refused.
-#[derive(Drop)]
+#[derive(Clone, Copy)]
 pub enum StepAnswer {
     Done,
     NotInThisState,
 }
 
 // The next port with the answer.
-#[derive(Drop)]
+#[derive(Clone, Copy)]
 pub struct Stepped {
     pub port: Port,
     pub answer: StepAnswer,

@@ -1,4 +1,6 @@
 // The hub's ports, by value: the first `count` of an array of seven, numbered from 1.
+#![tactic(auto)]
+
 ghost use Rattle.std.specs.Prelude.{◌≡◌, ◌&&◌, ◌≤◌, leb};
 ghost use Rattle.port.specs.Method.{answered};
 ghost use Rattle.port.specs.Reaction.{done_with};
@@ -12,7 +14,7 @@ ghost use Rattle.ports.specs.Claims.{PortsClaims};
 use port::{Port, PortCount, PortNumber, Stepped};
 
 // What is done to every port.
-#[derive(Drop)]
+#[derive(Clone, Copy)]
 pub enum Sweep {
     Tick,
     Configure,
@@ -27,6 +29,7 @@ pub fn new_ports() -> [Port; 7]
 }
 
 // Port n; a number outside 1 to 7 reads as the new port.
+#[tactic(auto, unfolding(crate::specs::Ports::port_at))]
 pub fn port_at(ports: [Port; 7], n: PortNumber) -> Port
     ensures { result ≡ port_at ports n }
 {
@@ -41,6 +44,7 @@ pub fn port_at(ports: [Port; 7], n: PortNumber) -> Port
 }
 
 // With port n anew; a number outside 1 to 7 changes nothing.
+#[tactic(auto, unfolding(crate::specs::Ports::with_port))]
 pub fn with_port(ports: [Port; 7], n: PortNumber, port: Port) -> [Port; 7]
     ensures { result ≡ with_port ports n port }
 {
@@ -57,6 +61,7 @@ pub fn with_port(ports: [Port; 7], n: PortNumber, port: Port) -> [Port; 7]
 }
 
 // A sweep over the first `count` ports.
+#[tactic(auto, unfolding(crate::specs::Sweep::front, crate::specs::Sweep::swept))]
 pub fn sweep_first(ports: [Port; 7], count: PortCount, what: Sweep) -> [Port; 7]
     ensures { result ≡ swept what count.0 ports }
 {
@@ -87,6 +92,7 @@ fn step(port: Port, what: Sweep) -> Stepped
 }
 
 // The status change bitmap over the first `count` ports: bit p for port p, bit 0 zero.
+#[tactic(auto, unfolding(crate::specs::Bitmap::bitmap_of, crate::specs::Ports::port_at))]
 pub fn bitmap(ports: [Port; 7], count: PortCount) -> u8
     ensures { result ≡ bitmap_of count.0 ports }
 {

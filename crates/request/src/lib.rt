@@ -1,4 +1,6 @@
 // The requests of the hub: the eight bytes of a setup packet to what they ask for, or to the first field that is wrong.
+#![tactic(auto)]
+
 ghost use Rattle.std.specs.Prelude.{◌≡◌};
 ghost use Rattle.request.specs.Setup.{word_of, setup_of};
 ghost use Rattle.request.specs.Values.{
@@ -20,7 +22,7 @@ use buffer::{DeviceAddress, Direction};
 use port::{ChangeBit, ClearableFeature, PortCount, PortNumber, SettableFeature};
 
 // The fields of a setup packet: bmRequestType, bRequest, wValue, wIndex, wLength.
-#[derive(Drop)]
+#[derive(Clone, Copy)]
 pub struct Setup {
     pub requesttype: u8,
     pub code: u8,
@@ -30,7 +32,7 @@ pub struct Setup {
 }
 
 // The row of the table that type and code name.
-#[derive(Drop)]
+#[derive(Clone, Copy)]
 pub enum Kind {
     Unknown,
     SetConfiguration,
@@ -46,7 +48,7 @@ pub enum Kind {
 }
 
 // What is wrong first, in this order.
-#[derive(Drop)]
+#[derive(Clone, Copy)]
 pub enum Fault {
     TypeOrCode,
     Value,
@@ -55,7 +57,7 @@ pub enum Fault {
 }
 
 // What ClearTTBuffer names: address, endpoint and direction. With the lane of the caller it is a key.
-#[derive(Drop)]
+#[derive(Clone, Copy)]
 pub struct Pipe {
     pub address: DeviceAddress,
     pub endpoint: u8,
@@ -63,7 +65,7 @@ pub struct Pipe {
 }
 
 // GetHubDescriptor has wLength, SetConfiguration whether its value is 1.
-#[derive(Drop)]
+#[derive(Clone, Copy)]
 pub enum Request {
     Wrong(Fault),
     SetConfiguration(bool),
@@ -341,6 +343,7 @@ fn request_claims()
 {}
 
 // Setup packets from literal bytes; the function does nothing.
+#[tactic(auto, unfolding(crate::specs::Table::kind_of, crate::specs::Request::checked, crate::specs::Request::request_of))]
 fn request_cases()
     ensures { CasesHold }
 {}
