@@ -1,5 +1,7 @@
 // The hub by value: identity, configuration, ports and translator; every call as a method that takes the hub and returns the next one
 // with its answer.
+#![tactic(auto)]
+
 ghost use Rattle.std.specs.Prelude.{◌≡◌, ◌+◌, ◌≤◌, ◌^◌, min, take};
 ghost use Rattle.payload.specs.Payload.{content};
 ghost use Rattle.port.specs.Method.{answered};
@@ -11,13 +13,13 @@ ghost use Rattle.hub.specs.Method.{outcome_of};
 ghost use Rattle.hub.specs.Call.{plain, done, stall, gives, gives_nothing, pid_answer};
 ghost use Rattle.hub.specs.Call.Call.{Control, Poll, Start, Complete, Launch, Deliver, Event, Tick, BusReset};
 ghost use Rattle.hub.specs.Requests.{descriptor, keyed, set_feature, clear_feature, by_request, served_always, requested};
-ghost use Rattle.hub.specs.Rules.{completed_as, launch_answer, launched_as, stepped_at};
+ghost use Rattle.hub.specs.Rules.{completed_as, launched_as, stepped_at};
 ghost use Rattle.hub.specs.Checks.{first_refusal};
 ghost use Rattle.hub.specs.Step.{step};
 ghost use Rattle.hub.specs.Claims.{HubClaims};
 ghost use Rattle.hub.specs.Cases.{BenchCases};
 
-use buffer::{BufferCount, Key, Lane, StartSplit};
+use buffer::{BufferCount, Key, Lane};
 use payload::Payload;
 use port::{ClearableFeature, Port, PortCount, PortNumber, SettableFeature};
 use ports::Sweep;
@@ -25,7 +27,7 @@ use request::{Pipe, Request};
 use translator::{CompleteAnswer, Completed, LaunchAnswer, Launched, Translator};
 
 // What a hub is made from, but for the number of buffers, which its translator has.
-#[derive(Drop)]
+#[derive(Clone, Copy)]
 pub struct Identity {
     pub ports: u8,
     pub powergood: u8,
@@ -34,7 +36,7 @@ pub struct Identity {
 }
 
 // The first `identity.ports` ports are in use; the others are new ports at all times.
-#[derive(Drop)]
+#[derive(Clone, Copy)]
 pub struct Hub {
     pub identity: Identity,
     pub configured: bool,
@@ -43,14 +45,14 @@ pub struct Hub {
 }
 
 // The hub that was made, or 6.
-#[derive(Drop)]
+#[derive(Clone, Copy)]
 pub struct Made {
     pub number: u8,
     pub hub: Hub,
 }
 
 // What a call answers; numbers that don't apply are 0.
-#[derive(Drop)]
+#[derive(Clone, Copy)]
 pub struct Reply {
     pub number: u8,
     pub pid: u8,
@@ -64,7 +66,7 @@ pub struct Reply {
 }
 
 // The next hub, the answer, and the bytes for the reply space.
-#[derive(Drop)]
+#[derive(Clone, Copy)]
 pub struct Stepped {
     pub hub: Hub,
     pub reply: Reply,
@@ -129,30 +131,6 @@ fn give_data(hub: Hub, payload: Payload) -> Stepped
     reply_pid(hub, 1, 0, payload)
 }
 
-// A launched transaction.
-fn give_launch(hub: Hub, split: StartSplit, payload: Payload) -> Stepped
-    ensures { outcome_of result ≡ record { next = hub; answer = launch_answer split (content payload) } }
-{
-    let pid = split.pid;
-    let transfer = split.transfer;
-    let lane = split.lane;
-    Stepped {
-        hub,
-        reply: Reply {
-            number: numbers::launch_answer(LaunchAnswer::Launches(split)),
-            pid: numbers::pid_number(pid),
-            transfer: numbers::type_number(transfer),
-            lane: numbers::lane_number(lane),
-            address: split.address.0,
-            endpoint: split.endpoint,
-            direction: numbers::direction_number(pid.direction()),
-            lowspeed: numbers::flag_number(split.lowspeed),
-            toggle: numbers::flag_number(split.toggle),
-        },
-        payload,
-    }
-}
-
 // The order of checks: 6, 7, 5, 8, then the rest.
 pub fn first_refusal(within: bool, space: bool, configured: bool, fitting: bool) -> u8
     ensures { result ≡ first_refusal within space configured fitting }
@@ -208,6 +186,7 @@ fn can_be_made(ports: u32, buffers: u32, powergood: u32, current: u32, removable
 
 impl Hub {
     // A new hub from its five numbers, or 6.
+    #[tactic(auto, unfolding(crate::specs::Hub::new_hub))]
     pub fn new(ports: u32, buffers: u32, powergood: u32, current: u32, removable: u32) -> Made
         ensures { result ≡ new_hub ports buffers powergood current removable }
     {
@@ -292,6 +271,7 @@ impl Hub {
     }
 
     // SetConfiguration.
+    #[tactic(auto, unfolding(crate::specs::Hub::configured_as))]
     fn configure(self, on: bool) -> Hub
         ensures { result ≡ configured_as on self }
     {
@@ -388,6 +368,7 @@ impl Hub {
         give_data(self, Payload::of(&bytes[..n]))
     }
 
+    #[tactic(auto, unfolding(payload::specs::Payload::padded, payload::specs::Payload::payload_of))]
     fn get_port_status(self, n: PortNumber) -> Stepped
         ensures { outcome_of result ≡ gives self (status_bytes (port_at self.ports n)) }
     {
@@ -395,22 +376,41 @@ impl Hub {
         give_data(self, Payload::of(&status))
     }
 
+    // Four requests, and line events, are kept apart: inlined, the frames add up (docs/SPEED.md).
+    #[inline(never)]
     fn clear_feature(self, n: PortNumber, feature: ClearableFeature) -> Stepped
         ensures { outcome_of result ≡ done (clear_feature self n feature) }
     {
         self.with_step(n, self.port(n).clear_feature(feature))
     }
 
+    #[inline(never)]
     fn set_feature(self, n: PortNumber, feature: SettableFeature) -> Stepped
         ensures { outcome_of result ≡ done (set_feature self n feature) }
     {
         self.with_step(n, self.port(n).set_feature(feature))
     }
 
+    #[inline(never)]
+    fn clear_buffer(self, lane: Lane, pipe: Pipe) -> Stepped
+        ensures { outcome_of result ≡ by_request self lane (Request.ClearTTBuffer pipe) }
+    {
+        let translator = self.translator;
+        done(self.with_translator(translator.clear_buffer(keyed(lane, pipe))))
+    }
+
+    #[inline(never)]
+    fn reset_lane(self, lane: Lane) -> Stepped
+        ensures { outcome_of result ≡ by_request self lane Request.ResetTT }
+    {
+        let translator = self.translator;
+        done(self.with_translator(translator.reset_lane(lane)))
+    }
+
+    #[tactic(auto, unfolding(payload::specs::Payload::padded, payload::specs::Payload::payload_of))]
     fn by_request(self, lane: Lane, request: Request) -> Stepped
         ensures { outcome_of result ≡ by_request self lane request }
     {
-        let translator = self.translator;
         match request {
             Request::Wrong(_) => stall(self),
             Request::SetConfiguration(on) => done(self.configure(on)),
@@ -424,10 +424,8 @@ impl Hub {
             Request::ClearHubFeature => done(self),
             Request::ClearPortFeature(n, feature) => self.clear_feature(n, feature),
             Request::SetPortFeature(n, feature) => self.set_feature(n, feature),
-            Request::ClearTTBuffer(pipe) => done(self.with_translator(translator.clear_buffer(keyed(
-                lane, pipe,
-            )))),
-            Request::ResetTT => done(self.with_translator(translator.reset_lane(lane))),
+            Request::ClearTTBuffer(pipe) => self.clear_buffer(lane, pipe),
+            Request::ResetTT => self.reset_lane(lane),
         }
     }
 
@@ -444,6 +442,7 @@ impl Hub {
 // ---- the calls
 
 impl Hub {
+    #[tactic(auto, unfolding(crate::specs::Checks::within, crate::specs::Checks::has_space, crate::specs::Checks::not_silent, crate::specs::Checks::fitting, crate::specs::Step::served))]
     pub fn control(self, lane: u32, setup: &[u8], room: usize) -> Stepped
         ensures { outcome_of result ≡ step self (Control lane setup.now room) }
     {
@@ -468,6 +467,7 @@ impl Hub {
         )
     }
 
+    #[tactic(auto, unfolding(crate::specs::Checks::within, crate::specs::Checks::has_space, crate::specs::Checks::not_silent, crate::specs::Checks::fitting, crate::specs::Step::served))]
     pub fn poll(self, lane: u32, room: usize) -> Stepped
         ensures { outcome_of result ≡ step self (Poll lane room) }
     {
@@ -483,6 +483,7 @@ impl Hub {
         give_data(self, Payload::of(&[bitmap]))
     }
 
+    #[tactic(auto, unfolding(crate::specs::Checks::within, crate::specs::Checks::has_space, crate::specs::Checks::not_silent, crate::specs::Checks::fitting, crate::specs::Step::served))]
     pub fn start_split(
         self,
         lane: u32,
@@ -510,6 +511,7 @@ impl Hub {
         answer(self.with_translator(next), numbers::start_answer(said))
     }
 
+    #[tactic(auto, unfolding(crate::specs::Checks::within, crate::specs::Checks::has_space, crate::specs::Checks::not_silent, crate::specs::Checks::fitting, crate::specs::Step::served))]
     pub fn complete_split(
         self,
         lane: u32,
@@ -537,20 +539,19 @@ impl Hub {
         let next = o.next;
         let said = o.answer;
         let payload = o.payload;
-        let hub = self.with_translator(next);
-        let number = numbers::complete_answer(said);
+        let mut s = answer(self.with_translator(next), numbers::complete_answer(said));
         match said {
-            CompleteAnswer::NoMatch => answer(hub, number),
-            CompleteAnswer::NotYet => answer(hub, number),
-            CompleteAnswer::Gives(result) => reply_pid(
-                hub,
-                number,
-                numbers::complete_pid(result),
-                payload,
-            ),
+            CompleteAnswer::NoMatch => {}
+            CompleteAnswer::NotYet => {}
+            CompleteAnswer::Gives(result) => {
+                s.reply.pid = numbers::complete_pid(result);
+                s.payload = payload;
+            }
         }
+        s
     }
 
+    #[tactic(auto, unfolding(crate::specs::Checks::within, crate::specs::Checks::has_space, crate::specs::Checks::not_silent, crate::specs::Checks::fitting, crate::specs::Step::served))]
     pub fn launch(self, room: usize) -> Stepped
         ensures { outcome_of result ≡ step self (Launch room) }
     {
@@ -571,15 +572,29 @@ impl Hub {
         let next = o.next;
         let said = o.answer;
         let payload = o.payload;
-        let hub = self.with_translator(next);
-        let number = numbers::launch_answer(said);
+        let mut s = answer(self.with_translator(next), numbers::launch_answer(said));
         match said {
-            LaunchAnswer::NothingPending => answer(hub, number),
-            LaunchAnswer::Occupied => answer(hub, number),
-            LaunchAnswer::Launches(split) => give_launch(hub, split, payload),
+            LaunchAnswer::NothingPending => {}
+            LaunchAnswer::Occupied => {}
+            LaunchAnswer::Launches(split) => {
+                let pid = split.pid;
+                let transfer = split.transfer;
+                let lane = split.lane;
+                s.reply.pid = numbers::pid_number(pid);
+                s.reply.transfer = numbers::type_number(transfer);
+                s.reply.lane = numbers::lane_number(lane);
+                s.reply.address = split.address.0;
+                s.reply.endpoint = split.endpoint;
+                s.reply.direction = numbers::direction_number(pid.direction());
+                s.reply.lowspeed = numbers::flag_number(split.lowspeed);
+                s.reply.toggle = numbers::flag_number(split.toggle);
+                s.payload = payload;
+            }
         }
+        s
     }
 
+    #[tactic(auto, unfolding(crate::specs::Checks::within, crate::specs::Checks::has_space, crate::specs::Checks::not_silent, crate::specs::Checks::fitting, crate::specs::Step::served))]
     pub fn deliver(self, res: u32, payload: &[u8]) -> Stepped
         ensures { outcome_of result ≡ step self (Deliver res payload.now) }
     {
@@ -597,6 +612,8 @@ impl Hub {
         answer(self.with_translator(next), number)
     }
 
+    #[tactic(auto, unfolding(crate::specs::Checks::within))]
+    #[inline(never)]
     pub fn line_event(self, event: u32, port: u32) -> Stepped
         ensures { outcome_of result ≡ step self (Event event port) }
     {
@@ -612,6 +629,7 @@ impl Hub {
         self.with_step(n, self.port(n).line_event(numbers::event_of(event)))
     }
 
+    #[tactic(auto, unfolding(crate::specs::Checks::within, crate::specs::Checks::has_space, crate::specs::Checks::not_silent, crate::specs::Checks::fitting, crate::specs::Step::served, crate::specs::Step::step, crate::specs::Hub::ticked_hub))]
     pub fn tick(self) -> Stepped
         ensures { outcome_of result ≡ step self Tick }
     {
@@ -621,6 +639,7 @@ impl Hub {
         done(self)
     }
 
+    #[tactic(auto, unfolding(crate::specs::Checks::within, crate::specs::Checks::has_space, crate::specs::Checks::not_silent, crate::specs::Checks::fitting, crate::specs::Step::served, crate::specs::Step::step, crate::specs::Hub::reset_hub))]
     pub fn bus_reset(self) -> Stepped
         ensures { outcome_of result ≡ step self BusReset }
     {
@@ -642,6 +661,7 @@ fn hub_claims()
 {}
 
 // P1 to P13, and the cases of C-12.
+#[tactic(auto, unfolding(payload::specs::Payload::padded, payload::specs::Payload::payload_of, ports::specs::Ports::port_at, ports::specs::Ports::with_port, ports::specs::Sweep::front, ports::specs::Sweep::swept, ports::specs::Bitmap::bitmap_of, buffer::specs::Same::same_key, buffer::specs::Lengths::numbers_fit, buffer::specs::Lengths::start_fits, buffer::specs::Lengths::result_length, translator::specs::Search::find, translator::specs::Search::chosen, translator::specs::Limit::permitted, translator::specs::Order::pass, translator::specs::Translator::tally, translator::specs::Order::ranked, translator::specs::Order::earliest, translator::specs::StartSplit::stored, translator::specs::StartSplit::start_split, translator::specs::CompleteSplit::complete_split, translator::specs::Launch::launch, translator::specs::Deliver::deliver, translator::specs::Clear::clear_buffer, translator::specs::ResetLane::reset_lane, request::specs::Table::kind_of, request::specs::Request::checked, request::specs::Request::request_of, numbers::specs::Split::split_named, numbers::specs::Split::split_from, numbers::specs::Split::key_named, numbers::specs::Split::key_from, crate::specs::Hub::new_fits, crate::specs::Hub::new_hub, crate::specs::Hub::configured_as, crate::specs::Hub::ticked_hub, crate::specs::Hub::reset_hub, crate::specs::Requests::requested, crate::specs::Rules::polled, crate::specs::Checks::within, crate::specs::Checks::has_space, crate::specs::Checks::not_silent, crate::specs::Checks::fitting, crate::specs::Step::served, crate::specs::Step::step))]
 fn bench_cases()
     ensures { BenchCases }
 {}

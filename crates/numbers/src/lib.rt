@@ -1,4 +1,6 @@
 // The numbers of the C interface: what each names, and the number of each value and answer.
+#![tactic(auto)]
+
 ghost use Rattle.std.specs.Prelude.{◌≡◌};
 ghost use Rattle.bools.specs.Bit.{bit};
 ghost use Rattle.translator.specs.Answers.{
@@ -163,6 +165,7 @@ pub fn port_named(count: PortCount, n: u32) -> bool
 
 // ---- start-splits and keys
 
+#[tactic(auto, unfolding(crate::specs::Split::split_named))]
 pub fn split_named(
     lane: u32,
     pid: u32,
@@ -180,6 +183,7 @@ pub fn split_named(
     bools::both(is_lane(lane), bools::both(kind, bools::both(flags, device)))
 }
 
+#[tactic(auto, unfolding(crate::specs::Split::split_from))]
 pub fn split_of(
     lane: u32,
     pid: u32,
@@ -202,6 +206,7 @@ pub fn split_of(
     }
 }
 
+#[tactic(auto, unfolding(crate::specs::Split::key_named))]
 pub fn key_named(lane: u32, address: u32, endpoint: u32, direction: u32) -> bool
     ensures { result ≡ key_named lane address endpoint direction }
 {
@@ -214,6 +219,7 @@ pub fn key_named(lane: u32, address: u32, endpoint: u32, direction: u32) -> bool
     )
 }
 
+#[tactic(auto, unfolding(crate::specs::Split::key_from))]
 pub fn key_of(lane: u32, address: u32, endpoint: u32, direction: u32) -> Key
     ensures { result ≡ key_from lane address endpoint direction }
 {

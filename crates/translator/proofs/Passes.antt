@@ -16,7 +16,6 @@ use Rattle.buffer.specs.Buffer.{holds}
 use Rattle.translator.specs.declared.Found.{Found}
 use Rattle.translator.specs.declared.Found.TheVariants.{Nowhere, At}
 use Rattle.translator.specs.declared.Earliest.TheVariants.{NonePending}
-use Rattle.translator.specs.Translator.{at}
 use Rattle.translator.specs.Slots.{bare}
 use Rattle.translator.specs.Order.{sooner, earliest, pass}
 use Rattle.translator.specs.Search.{later, find}
@@ -94,7 +93,7 @@ pass_found k n (b ∷ bs) = go (holds k b.slot) (pass_found k (suc n) bs)
 pub finding_from : (k : Key) (m : ℕ) (ss : List Slot) → Ahead (finding k) m ss (find (holds k) (take m (bare ss))) 0 Nowhere
 finding_from k m ss = record { rest = pass_found k 0 (take m (bare ss)) ∙ shifted_zero (find (holds k) (take m (bare ss))) }
 
-module _ {k : Key} {m : ℕ} {ss : List Slot} {w : Found} {i : ℕ} where
+module _ (k : Key) {m : ℕ} {ss : List Slot} {w : Found} {i : ℕ} where
   pub not_here : {x : Bool} (d : Slot) → Ahead (finding k) m ss w i Nowhere → x ≡ holds k (get_or ss i d) → x ≡ false → i < m → i < length ss
       → Ahead (finding k) m ss w (i + 1) Nowhere
   not_here d a e f = onward d a (rw (sym e ∙ f))

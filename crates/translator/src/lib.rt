@@ -1,4 +1,6 @@
 // The transaction translator by value: its buffers, the search of a start-split, the order of acceptance and the low side.
+#![tactic(auto)]
+
 ghost use Rattle.std.specs.Prelude.{◌≡◌, ◌+◌, ◌≤◌, take};
 ghost use Rattle.translator.specs.Translator.{new_translator, at, with_buffer, with_low, emptied};
 ghost use Rattle.translator.specs.Slots.{slots_in, bare};
@@ -7,8 +9,8 @@ ghost use Rattle.buffer.specs.Buffer.{holds, is_pending};
 ghost use Rattle.translator.specs.Limit.{may_store, permitted};
 ghost use Rattle.translator.specs.OnePass.{past, counted, look, is_settled, held_so_far, carried_by, choice_of, OnePass};
 ghost use Rattle.translator.specs.SearchMistakes.{SearchMistakesShutOut};
-ghost use Rattle.translator.specs.Order.{is_before, waiting, before, ranked_in, ranked, sooner, earliest};
-ghost use Rattle.translator.specs.StartSplit.{stored, start_split};
+ghost use Rattle.translator.specs.Order.{is_before, waiting, before, reranked, ranked_in, ranked, sooner, earliest};
+ghost use Rattle.translator.specs.StartSplit.{stored, start_by, start_split};
 ghost use Rattle.translator.specs.CompleteSplit.{given, completed, complete_split};
 ghost use Rattle.translator.specs.Launch.{unlaunched, launched, launch};
 ghost use Rattle.translator.specs.Deliver.{undelivered, delivered, deliver};
@@ -24,7 +26,7 @@ use buffer::{
 use payload::Payload;
 
 // The full- and low-speed side: one transaction at a time.
-#[derive(Drop)]
+#[derive(Clone, Copy)]
 pub enum LowSide {
     Idle,
     Running(BufferNumber),
@@ -33,7 +35,7 @@ pub enum LowSide {
 }
 
 // The first `count` buffers are in use; the others are empty at all times.
-#[derive(Drop)]
+#[derive(Clone, Copy)]
 pub struct Translator {
     pub buffers: [Buffer; 4],
     pub count: u8,
@@ -41,14 +43,14 @@ pub struct Translator {
 }
 
 // Where a search ended.
-#[derive(Drop)]
+#[derive(Clone, Copy)]
 pub enum Found {
     Nowhere,
     At(BufferNumber),
 }
 
 // What a start-split does with which buffer.
-#[derive(Drop)]
+#[derive(Clone, Copy)]
 pub enum Choice {
     NoRoom,
     // storing would pass the limit of its lane
@@ -60,7 +62,7 @@ pub enum Choice {
 
 // What the search of a start-split carries on from buffer to buffer (the accumulator of a fold): numbers and flags, no key and no payload.
 // Which of the four it is says what the buffer number names; the u8 is how many buffers so far the key's lane holds pending or ready.
-#[derive(Drop)]
+#[derive(Clone, Copy)]
 pub enum Carried {
     // none has the key, none is empty or old
     NoneYet(u8),
@@ -73,54 +75,54 @@ pub enum Carried {
 }
 
 // The pending buffer accepted first, with its place.
-#[derive(Drop)]
+#[derive(Clone, Copy)]
 pub enum Earliest {
     NonePending,
     Stored(BufferNumber, u8),
 }
 
-#[derive(Drop)]
+#[derive(Clone, Copy)]
 pub enum StartAnswer {
     // a number or length outside the rules
     Outside,
     Chosen(Choice),
 }
 
-#[derive(Drop)]
+#[derive(Clone, Copy)]
 pub struct Started {
     pub next: Translator,
     pub answer: StartAnswer,
 }
 
-#[derive(Drop)]
+#[derive(Clone, Copy)]
 pub enum CompleteAnswer {
     NoMatch,
     NotYet,
     Gives(DeviceResult),
 }
 
-#[derive(Drop)]
+#[derive(Clone, Copy)]
 pub struct Completed {
     pub next: Translator,
     pub answer: CompleteAnswer,
     pub payload: Payload,
 }
 
-#[derive(Drop)]
+#[derive(Clone, Copy)]
 pub enum LaunchAnswer {
     NothingPending,
     Occupied,
     Launches(StartSplit),
 }
 
-#[derive(Drop)]
+#[derive(Clone, Copy)]
 pub struct Launched {
     pub next: Translator,
     pub answer: LaunchAnswer,
     pub payload: Payload,
 }
 
-#[derive(Drop)]
+#[derive(Clone, Copy)]
 pub enum DeliverAnswer {
     // a number or length outside the rules
     Outside,
@@ -128,7 +130,7 @@ pub enum DeliverAnswer {
     Done,
 }
 
-#[derive(Drop)]
+#[derive(Clone, Copy)]
 pub struct Delivered {
     pub next: Translator,
     pub answer: DeliverAnswer,
@@ -350,21 +352,26 @@ pub fn rank_of(slots: [Slot; 4], place: u8) -> u8
     )
 }
 
-// The buffer with its rank among the slots as its place, if it is pending.
+// The slot with its rank among the slots as its place, if it is pending.
+fn rerank_slot(slots: [Slot; 4], slot: Slot) -> Slot
+    ensures { result ≡ reranked (bare slots) slot }
+{
+    match slot {
+        Slot::Empty => slot,
+        Slot::Pending(split, place) => Slot::Pending(split, rank_of(slots, place)),
+        Slot::Ready(_, _) => slot,
+        Slot::Old(_, _) => slot,
+    }
+}
+
+// The buffer with such a slot.
 fn rerank(slots: [Slot; 4], b: Buffer) -> Buffer
     ensures { result ≡ ranked_in (bare slots) b }
 {
     let slot = b.slot;
-    let payload = b.payload;
-    match slot {
-        Slot::Empty => b,
-        Slot::Pending(split, place) => Buffer {
-            slot: Slot::Pending(split, rank_of(slots, place)),
-            payload,
-        },
-        Slot::Ready(_, _) => b,
-        Slot::Old(_, _) => b,
-    }
+    let mut next = b;
+    next.slot = rerank_slot(slots, slot);
+    next
 }
 
 fn renumber(bs: [Buffer; 4], slots: [Slot; 4]) -> [Buffer; 4]
@@ -539,32 +546,30 @@ impl Translator {
         ranks.with_buffer(n, b)
     }
 
+    // The next translator, once what to do is chosen.
+    fn started(self, choice: Choice, split: StartSplit, payload: &[u8]) -> Translator
+        ensures { result ≡ (start_by self split payload.now choice).next }
+    {
+        match choice {
+            Choice::NoRoom => self,
+            Choice::LimitReached => self,
+            Choice::Held(_) => self,
+            Choice::Reused(n) => self.store(n, split, payload),
+            Choice::Took(n) => self.store(n, split, payload),
+        }
+    }
+
+    // Inlined: what explains a start-split then stores nothing.
+    #[tactic(auto, unfolding(crate::specs::StartSplit::start_split))]
+    #[inline(always)]
     pub fn start_split(self, split: StartSplit, payload: &[u8]) -> Started
         ensures { result ≡ start_split self split payload.now }
     {
         if split.fits(payload.len()) {
             let choice = self.choose(split.key());
-            match choice {
-                Choice::NoRoom => Started {
-                    next: self,
-                    answer: StartAnswer::Chosen(Choice::NoRoom),
-                },
-                Choice::LimitReached => Started {
-                    next: self,
-                    answer: StartAnswer::Chosen(Choice::LimitReached),
-                },
-                Choice::Held(n) => Started {
-                    next: self,
-                    answer: StartAnswer::Chosen(Choice::Held(n)),
-                },
-                Choice::Reused(n) => Started {
-                    next: self.store(n, split, payload),
-                    answer: StartAnswer::Chosen(Choice::Reused(n)),
-                },
-                Choice::Took(n) => Started {
-                    next: self.store(n, split, payload),
-                    answer: StartAnswer::Chosen(Choice::Took(n)),
-                },
+            Started {
+                next: self.started(choice, split, payload),
+                answer: StartAnswer::Chosen(choice),
             }
         } else {
             Started {
@@ -611,6 +616,7 @@ impl Translator {
         }
     }
 
+    #[tactic(auto, unfolding(crate::specs::CompleteSplit::complete_split))]
     pub fn complete_split(self, key: Key) -> Completed
         ensures { result ≡ complete_split self key }
     {
@@ -642,6 +648,7 @@ impl Translator {
         }
     }
 
+    #[tactic(auto, unfolding(crate::specs::Launch::launch))]
     pub fn launch(self) -> Launched
         ensures { result ≡ launch self }
     {
@@ -684,6 +691,7 @@ impl Translator {
         }
     }
 
+    #[tactic(auto, unfolding(crate::specs::Deliver::deliver))]
     pub fn deliver(self, res: DeviceResult, payload: &[u8]) -> Delivered
         ensures { result ≡ deliver self res payload.now }
     {
@@ -706,6 +714,7 @@ impl Translator {
     }
 
     // ClearTTBuffer.
+    #[tactic(auto, unfolding(crate::specs::Clear::clear_buffer))]
     pub fn clear_buffer(self, key: Key) -> Translator
         ensures { result ≡ clear_buffer self key }
     {
@@ -758,7 +767,8 @@ impl Translator {
     }
 }
 
-// Empty, if it was the lane's.
+// Empty, if it was the lane's. Kept apart: inlined, the frames add up (docs/SPEED.md).
+#[inline(never)]
 fn without_lane(b: Buffer, lane: Lane) -> Buffer
     ensures { result ≡ without_lane lane b }
 {
@@ -825,6 +835,7 @@ fn translator_claims()
 {}
 
 // A payload of 64 bytes, a short result after a long one, a late result.
+#[tactic(auto, unfolding(payload::specs::Payload::padded, payload::specs::Payload::payload_of, buffer::specs::Same::same_key, buffer::specs::Lengths::numbers_fit, buffer::specs::Lengths::start_fits, buffer::specs::Lengths::result_length, crate::specs::Search::find, crate::specs::Search::chosen, crate::specs::Order::pass, crate::specs::Translator::tally, crate::specs::Order::ranked, crate::specs::Order::earliest, crate::specs::StartSplit::stored, crate::specs::StartSplit::start_split, crate::specs::CompleteSplit::complete_split, crate::specs::Launch::launch, crate::specs::Deliver::deliver, crate::specs::Clear::clear_buffer, crate::specs::Limit::permitted))]
 fn translator_cases()
     ensures { CasesHold }
 {}
@@ -838,6 +849,7 @@ fn search_mistakes()
 {}
 
 // What is carried past each buffer, and the choice.
+#[tactic(auto, unfolding(buffer::specs::Same::same_key, crate::specs::Slots::bare, crate::specs::Search::find, crate::specs::Search::chosen, crate::specs::Order::pass, crate::specs::Translator::tally, crate::specs::Limit::permitted, crate::specs::OnePass::look))]
 fn search_cases()
     ensures { SearchCasesHold }
 {}

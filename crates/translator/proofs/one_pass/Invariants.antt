@@ -1,0 +1,13 @@
+use Rattle.std.proofs.Common.{◌-◌, ◌≤◌, take}
+use Rattle.translator.specs.Slots.{bare}
+use Rattle.translator.specs.OnePass.{look, held_so_far, carried_by}
+use Rattle.translator.proofs.Passes.{Ahead}
+use Rattle.translator.proofs.Search.{looking}
+use Rattle.translator.proofs.one_pass.Given as goal
+
+abbrev pub invariant-loop-n : goal.invariant-loop-n
+invariant-loop-n l =
+    Ahead (looking l.key) l.used l.slots (carried_by look l.key (take l.used (bare l.slots))) l.n l.carried × (held_so_far l.carried ≤ l.n)
+
+abbrev pub decreases-loop-n : goal.decreases-loop-n
+decreases-loop-n l = 4 - l.n
