@@ -1,4 +1,6 @@
 // C-21: one port cannot disturb another. Nothing runs here: each function pins one claim of specs/, so that it can't be dropped or weakened.
+#![tactic(auto)]
+
 ghost use Rattle.runs.specs.Machine.{rules};
 ghost use Rattle.isolation.specs.Isolation.{PortIsolation};
 ghost use Rattle.isolation.specs.Disturbances.{DisturbancesShutOut};

@@ -55,7 +55,7 @@ use Rattle.numbers.proofs.Laws.{numbers_claims_lem}
 use Rattle.hub.specs.declared.Hub.{Hub}
 use Rattle.hub.specs.Call.{Call, Answer, plain_answer, pid_answer}
 use Rattle.hub.specs.Rules.{completed_by, launch_answer, launched_by}
-use Rattle.runs.specs.History.{Event, History, Asks, nothing, starts, completes, launches, delivers, clears, resets, empties, key_of, asks, last_stored, delivered_to}
+use Rattle.runs.specs.History.{Event, History, Asks, nothing, starts, completes, launches, delivers, clears, resets, empties, asks, last_stored, delivered_to}
 use Rattle.runs.specs.Demand3.{Explained}
 use Rattle.runs.proofs.Histories.{silent_nothing, silent_refused, Refused, empty_closes}
 use Rattle.runs.proofs.Invariant.{held_data, Good, Inv, LowOk, Unheld, quiet, held-ranked, inv_ranked, free_ranked, into_kept, aged_kept, again_kept, launch_kept, delivered_kept, thrown_kept, clear_kept, closed_kept, repeat_kept, reset_kept, empty_kept}

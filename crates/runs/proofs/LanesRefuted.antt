@@ -4,7 +4,7 @@ use native.Mathlib.Omega.{arith}
 use mathlib.Core.Path.{◌≡◌, refl, ap}
 use mathlib.Core.Option.{some}
 use mathlib.Core.List.{List, [], ◌∷◌}
-use mathlib.Core.Bool.{true, true≢false, false≢true}
+use mathlib.Core.Bool.{true≢false, false≢true}
 use lib.ListN.{get_or}
 use Rattle.payload.specs.Payload.{padded, payload_of}
 use Rattle.buffer.specs.declared.Lane.TheVariants.{Zero, One}

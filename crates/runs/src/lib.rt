@@ -1,4 +1,6 @@
 // Whole runs of calls on a hub. Nothing runs here: each function pins one claim of specs/, so that it can't be dropped or weakened.
+#![tactic(auto)]
+
 ghost use Rattle.hub.specs.Step.{step};
 ghost use Rattle.runs.specs.Machine.{rules};
 ghost use Rattle.runs.specs.Refusals.{Refusals};

@@ -1,6 +1,6 @@
 -- When a reason is true of a hub and a call. A reader must believe: these are the words of document 02, C-15 and C-18, over document 01's
 -- state and table; what is wrong with a request is wrong by the table, and the order of things is `place`.
-use Rattle.std.specs.Prelude.{ℕ, ◌<◌, ◌≤◌, ◌≡◌, ◌↔◌, Bool, true, false, ◌&&◌, ◌||◌, List, [], ◌∷◌, map, eqb, leb, length, get_or}
+use Rattle.std.specs.Prelude.{ℕ, ◌<◌, ◌≤◌, ◌≡◌, ◌↔◌, Bool, true, false, ◌&&◌, ◌||◌, List, [], ◌∷◌, map, eqb, leb, get_or}
 use Rattle.std.proofs.Math.Option.{Option, none, some}
 use Rattle.port.specs.declared.Changes.{Changes}
 use Rattle.port.specs.declared.ChangeBit.{ChangeBit}

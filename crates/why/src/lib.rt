@@ -1,4 +1,6 @@
 // Why a call would be answered as it is: the hub and the call by value in, the reason out; the call is not made.
+#![tactic(auto)]
+
 ghost use Rattle.std.specs.Prelude.{◌≡◌};
 ghost use Rattle.hub.specs.Call.Call.{Control, Poll, Start, Complete, Launch, Deliver, Event, Tick, BusReset};
 ghost use Rattle.hub.specs.Step.{step};
@@ -17,7 +19,7 @@ use request::{Fault, Kind, Request};
 use translator::{Choice, StartAnswer};
 
 // What can be wrong with a control request, in the order in which it is looked at: the request's own faults, and a hub that is unconfigured.
-#[derive(Drop)]
+#[derive(Clone, Copy)]
 pub enum RequestFault {
     TypeOrCode,
     Unconfigured,
@@ -27,7 +29,7 @@ pub enum RequestFault {
 }
 
 // Change bits by port; fields and no array, since it stands in an enum.
-#[derive(Drop)]
+#[derive(Clone, Copy)]
 pub struct PortChanges {
     pub port1: Changes,
     pub port2: Changes,
@@ -38,7 +40,7 @@ pub struct PortChanges {
     pub port7: Changes,
 }
 
-#[derive(Drop)]
+#[derive(Clone, Copy)]
 pub enum Reason {
     // other answers get no reason
     Nothing,
@@ -60,6 +62,7 @@ pub enum Reason {
 // ---- the parts of a reason
 
 // The number, where it is one of 5 to 8.
+#[tactic(auto, unfolding(crate::specs::Why::numbered))]
 fn number_first(number: u8, rest: Reason) -> Reason
     ensures { result ≡ numbered number rest }
 {
@@ -92,6 +95,7 @@ fn changes_of(port: Port) -> Changes
     changes
 }
 
+#[tactic(auto, unfolding(crate::specs::Why::changes_by_port))]
 fn changes_by_port(ports: [Port; 7]) -> PortChanges
     ensures { result ≡ changes_by_port ports }
 {
@@ -113,6 +117,7 @@ fn changes_by_port(ports: [Port; 7]) -> PortChanges
     }
 }
 
+#[tactic(auto, unfolding(crate::specs::Why::poll_reason))]
 fn poll_reason(number: u8, changes: PortChanges) -> Reason
     ensures { result ≡ poll_reason number changes }
 {
@@ -236,6 +241,7 @@ pub fn explain_start_split(
     number_first(o.reply.number, start_reason(said))
 }
 
+#[tactic(auto, unfolding(crate::specs::Why::rule_reason, crate::specs::Why::why_of))]
 pub fn explain_complete_split(
     hub: Hub,
     lane: u32,
@@ -250,6 +256,7 @@ pub fn explain_complete_split(
     number_first(o.reply.number, Reason::Nothing)
 }
 
+#[tactic(auto, unfolding(crate::specs::Why::rule_reason, crate::specs::Why::why_of))]
 pub fn explain_launch(hub: Hub, room: usize) -> Reason
     ensures { result ≡ why_of hub (Launch room) }
 {
@@ -257,6 +264,7 @@ pub fn explain_launch(hub: Hub, room: usize) -> Reason
     number_first(o.reply.number, Reason::Nothing)
 }
 
+#[tactic(auto, unfolding(crate::specs::Why::rule_reason, crate::specs::Why::why_of))]
 pub fn explain_deliver(hub: Hub, res: u32, payload: &[u8]) -> Reason
     ensures { result ≡ why_of hub (Deliver res payload.now) }
 {
@@ -264,6 +272,7 @@ pub fn explain_deliver(hub: Hub, res: u32, payload: &[u8]) -> Reason
     number_first(o.reply.number, Reason::Nothing)
 }
 
+#[tactic(auto, unfolding(crate::specs::Why::rule_reason, crate::specs::Why::why_of))]
 pub fn explain_line_event(hub: Hub, event: u32, port: u32) -> Reason
     ensures { result ≡ why_of hub (Event event port) }
 {
@@ -271,6 +280,7 @@ pub fn explain_line_event(hub: Hub, event: u32, port: u32) -> Reason
     number_first(o.reply.number, Reason::Nothing)
 }
 
+#[tactic(auto, unfolding(crate::specs::Why::rule_reason, crate::specs::Why::why_of))]
 pub fn explain_tick(hub: Hub) -> Reason
     ensures { result ≡ why_of hub Tick }
 {
@@ -278,6 +288,7 @@ pub fn explain_tick(hub: Hub) -> Reason
     number_first(o.reply.number, Reason::Nothing)
 }
 
+#[tactic(auto, unfolding(crate::specs::Why::rule_reason, crate::specs::Why::why_of))]
 pub fn explain_bus_reset(hub: Hub) -> Reason
     ensures { result ≡ why_of hub BusReset }
 {
@@ -289,7 +300,7 @@ pub fn explain_bus_reset(hub: Hub) -> Reason
 
 // Its kind, a number, and a byte of change bits for each port. The header's grimholdi_reason.
 #[repr(C)]
-#[derive(Drop)]
+#[derive(Clone, Copy)]
 pub struct ReasonBytes {
     pub kind: u8,
     pub value: u8,
