@@ -1,6 +1,6 @@
 -- The two engines of a port, and that they agree (C-20). A reader must believe: a port request is 2 where the port is Not Configured, since the
 -- hub is unconfigured then.
-use Rattle.std.specs.Prelude.{ℕ, ◌≡◌, Bool, true, false, cond, ◌&&◌, List, [], ◌∷◌}
+use Rattle.std.specs.Prelude.{◌≡◌, Bool, true, false, cond, ◌&&◌, List, [], ◌∷◌}
 use Rattle.port.specs.declared.Port.{Port}
 use Rattle.port.specs.declared.Input.{Input}
 use Rattle.port.specs.declared.Input.TheVariants as input

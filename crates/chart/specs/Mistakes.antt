@@ -1,6 +1,6 @@
 -- Charts with one wrong cell, and engines with one mistake, and that the claim shuts each out: so it can't be weakened unnoticed.
 -- A reader must believe: each is wrong as its comment says, and nowhere else.
-use Rattle.std.specs.Prelude.{ℕ, ◌≡◌, Bool, true, false, List, get_or}
+use Rattle.std.specs.Prelude.{ℕ, ◌≡◌, true, false, List, get_or}
 use Rattle.port.specs.declared.Speed.TheVariants.{Low, Full, High}
 use Rattle.port.specs.declared.PortState.{PortState}
 use Rattle.port.specs.declared.PortState.TheVariants.{NotConfigured, PoweredOff, Resetting, Enabled, Resuming}

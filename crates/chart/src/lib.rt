@@ -1,5 +1,7 @@
 // A second engine for one port. The rules of a port are a chart (src/table.rt) with a cell for each situation and input; the engine looks the port's
 // cell up, by one index. The timer's ticks are counted beside it. The first engine is crate `port`.
+#![tactic(auto)]
+
 ghost use Rattle.std.specs.Prelude.{◌≡◌, ◌%◌, ◌<◌, ◌≤◌, min, not};
 ghost use Rattle.bools.specs.Bit.{bit};
 ghost use Rattle.port.specs.Reaction.{no_changes};
@@ -32,7 +34,7 @@ use port::{
 use table::CHART;
 
 // The port afterwards, and the number that is answered.
-#[derive(Drop)]
+#[derive(Clone, Copy)]
 pub struct PortAnswer {
     pub port: Port,
     pub number: u8,
@@ -46,6 +48,7 @@ pub fn chart() -> [u32; 1104]
 }
 
 // The second engine, on any chart: one index, one cell.
+#[tactic(auto, unfolding(crate::specs::Chart::looked_up))]
 pub fn look_up(chart: &[u32; 1104], port: Port, input: Input) -> PortAnswer
     ensures { answered result ≡ looked_up chart.now port input }
 {

@@ -1,4 +1,6 @@
 // The chart of crate `chart` is that of every port of the hub. No code that ships runs this.
+#![tactic(auto)]
+
 ghost use Rattle.chart.specs.Chart.{looked_up};
 ghost use Rattle.hub.specs.Step.{step};
 ghost use Rattle.hub_chart.specs.HubChart.{HubFollows, OnlyInputsMove};

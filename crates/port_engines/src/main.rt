@@ -1,13 +1,15 @@
 // Steps ports by one engine or the other, so that their instructions can be counted (`make speed`). Each letter of the input is a round over every
 // line of the chart and some of its columns: of all inputs (a), line events (e), the tick (t), features (f), change bits (b), or configuration and
 // bus reset (c); by the chart, or by the rules where the letter is a capital. A digit from 0 on is the same round without an engine.
-ghost use Rattle.std.specs.Prelude.{◌≤◌};
+#![tactic(auto)]
+
+ghost use Rattle.std.specs.Prelude.{◌≤◌, IfOk};
 
 use chart::PortAnswer;
-use libc::STDOUT_FILENO;
 use port::{Input, Port};
+use std::io::{self, Read};
 
-#[derive(Drop)]
+#[derive(Clone, Copy)]
 enum Engine {
     Neither,
     Rules,
@@ -15,7 +17,7 @@ enum Engine {
 }
 
 // The columns from the first on, and not the end.
-#[derive(Drop)]
+#[derive(Clone, Copy)]
 struct Round {
     engine: Engine,
     first: usize,
@@ -78,7 +80,7 @@ fn of_line(round: Round, chart: &[u32; 1104], line: usize) -> u64 {
     let mut column = round.first;
     while column < end {
         let given = stepped(engine, chart, chart::port_at(line), chart::input_at(column));
-        sum = std::num::wrapping_add_u64(sum, weight(given));
+        sum = sum.wrapping_add(weight(given));
         column += 1;
     }
     sum
@@ -88,7 +90,7 @@ fn of_round(round: Round, chart: &[u32; 1104]) -> u64 {
     let mut sum: u64 = 0;
     let mut line: usize = 0;
     while line < 48 {
-        sum = std::num::wrapping_add_u64(sum, of_line(round, chart, line));
+        sum = sum.wrapping_add(of_line(round, chart, line));
         line += 1;
     }
     sum
@@ -98,17 +100,32 @@ fn of_letters(letters: &[u8], chart: &[u32; 1104]) -> u64 {
     let mut sum: u64 = 0;
     let mut n: usize = 0;
     while n < letters.len() {
-        sum = std::num::wrapping_add_u64(sum, of_round(round_of(letters[n]), chart));
+        sum = sum.wrapping_add(of_round(round_of(letters[n]), chart));
         n += 1;
     }
     sum
 }
 
-fn main() {
+// Fills the letters from the input, as far as it goes; how many there are.
+fn read_letters(input: &mut impl Read, letters: &mut [u8; 4096]) -> io::Result<usize>
+    ensures { IfOk result (λ n. n ≤ 4096) }
+{
+    let mut n: usize = 0;
+    for _ in 0..4096 {
+        let more = input.read(&mut letters[n..])?;
+        if more == 0 {
+            break;
+        }
+        n += more;
+    }
+    Ok(n)
+}
+
+// The first 4,096 letters count; a longer input is cut there.
+fn main(rt: HostRuntime) -> io::Result<()> {
     let chart = chart::chart();
-    let mut letters = io::buffer();
-    let n = io::read_full(0, &mut letters);
+    let mut letters = [0u8; 4096];
+    let n = read_letters(&mut rt.reader(), &mut letters)?;
     let sum = of_letters(&letters[..n], &chart);
-    io::print_decimal(STDOUT_FILENO, sum);
-    io::write_all(STDOUT_FILENO, b"\n");
+    println!(rt; "{sum}")
 }
