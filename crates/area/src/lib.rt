@@ -1,4 +1,6 @@
 // The written form of a hub in a lent byte area: its length, reading and writing.
+#![tactic(auto)]
+
 ghost use Rattle.std.specs.Prelude.{◌≡◌, [], ◌∷◌, ◌+◌, ◌*◌, ◌≤◌, min, length, get_or, take};
 ghost use Rattle.bools.specs.Bit.{bit};
 ghost use Rattle.port.specs.Status.{byte_of};
@@ -20,7 +22,7 @@ use port::{Changes, Port, PortState};
 use translator::{LowSide, Translator};
 
 // What an area gives. The hub counts where ok holds.
-#[derive(Drop)]
+#[derive(Clone, Copy)]
 pub struct Read {
     pub ok: bool,
     pub hub: Hub,
@@ -32,7 +34,7 @@ fn fill(dst: &mut [u8], src: &[u8])
     requires { length src.now ≡ length dst.old }
     ensures { dst.new ≡ src.now }
 {
-    bytes::copy(src, dst);
+    dst.copy_from_slice(src);
 }
 
 fn lesser(a: usize, b: usize) -> usize
@@ -43,6 +45,7 @@ fn lesser(a: usize, b: usize) -> usize
 
 // ---- one port, 4 bytes
 
+#[tactic(auto, unfolding(area_check::specs::Read::marked_port))]
 fn marked_port(state: PortState, m: u8) -> Port
     ensures { result ≡ marked_port state m }
 {
@@ -65,6 +68,7 @@ fn marked_port(state: PortState, m: u8) -> Port
     }
 }
 
+#[tactic(auto, unfolding(area_check::specs::Read::port_of))]
 fn port_of(b: &[u8]) -> Port
     requires { length b.now ≡ 4 }
     ensures { result ≡ port_of b.now }
@@ -84,6 +88,7 @@ fn marks_byte(p: Port) -> u8
         + 32 * bools::bit_of(p.overcurrent)
 }
 
+#[tactic(auto, unfolding(crate::specs::Written::port_bytes))]
 fn port_bytes(p: Port) -> [u8; 4]
     ensures { result ≡ port_bytes p }
 {
@@ -111,6 +116,7 @@ fn result_of(n: u8) -> DeviceResult
     numbers::result_of(n as u32)
 }
 
+#[tactic(auto, unfolding(area_check::specs::Read::held_split))]
 fn held_split(b: &[u8]) -> StartSplit
     requires { length b.now ≡ 72 }
     ensures { result ≡ held_split b.now }
@@ -128,6 +134,7 @@ fn held_split(b: &[u8]) -> StartSplit
     }
 }
 
+#[tactic(auto, unfolding(area_check::specs::Read::slot_of))]
 fn slot_of(b: &[u8]) -> Slot
     requires { length b.now ≡ 72 }
     ensures { result ≡ slot_of b.now }
@@ -142,6 +149,7 @@ fn slot_of(b: &[u8]) -> Slot
     }
 }
 
+#[tactic(auto, unfolding(area_check::specs::Read::buffer_of))]
 fn buffer_of(b: &[u8]) -> Buffer
     requires { length b.now ≡ 72 }
     ensures { result ≡ buffer_of b.now }
@@ -244,6 +252,7 @@ pub fn put_buffer_at(buffer: Buffer, area: &mut [u8], at: u16)
 
 // ---- rows of ports and buffers
 
+#[tactic(auto, unfolding(area_check::specs::Read::no_ports, area_check::specs::Rows::parts, area_check::specs::Read::ports_of))]
 fn get_ports(b: &[u8], n: usize) -> [Port; 7]
     requires { (n ≤ 7) × (length b.now ≡ n * 4) }
     ensures { result ≡ ports_of n b.now }
@@ -259,6 +268,7 @@ fn get_ports(b: &[u8], n: usize) -> [Port; 7]
     row
 }
 
+#[tactic(auto, unfolding(area_check::specs::Read::no_buffers, area_check::specs::Rows::parts, area_check::specs::Read::buffers_of))]
 fn get_buffers(b: &[u8], n: usize) -> [Buffer; 4]
     requires { (n ≤ 4) × (length b.now ≡ n * 72) }
     ensures { result ≡ buffers_of n b.now }
@@ -333,6 +343,7 @@ pub fn running_byte(low: LowSide) -> u8
     }
 }
 
+#[tactic(auto, unfolding(crate::specs::Written::head_bytes))]
 fn head_bytes(identity: Identity, configured: bool, count: BufferCount, low: LowSide) -> [u8; 8]
     ensures { result ≡ head_bytes identity configured count.0 low }
 {
@@ -349,6 +360,7 @@ fn head_bytes(identity: Identity, configured: bool, count: BufferCount, low: Low
 }
 
 // The length of the area of a hub with these numbers of ports and buffers; 0 where a number is outside the rules.
+#[tactic(auto, unfolding(crate::specs::Written::area_length))]
 pub fn area_length(ports: u32, buffers: u32) -> usize
     ensures { result ≡ area_length ports buffers }
 {
@@ -399,6 +411,7 @@ fn decode(area: &[u8]) -> Hub
     }
 }
 
+#[tactic(auto, unfolding(crate::specs::Read::refusal))]
 fn refuse() -> Read
     ensures { result ≡ refusal }
 {
@@ -419,7 +432,8 @@ fn refuse() -> Read
     }
 }
 
-// The hub whose written form the area is, if of a valid one.
+// The hub whose written form the area is, if of a valid one. Kept apart: inlined, the frames add up (docs/SPEED.md).
+#[inline(never)]
 pub fn read_area(area: &[u8]) -> Read
     ensures { result ≡ read_of area.now }
 {

@@ -1,4 +1,6 @@
 // The test of a lent byte area: whether its bytes are the written form of a valid hub. No hub is built.
+#![tactic(auto)]
+
 ghost use Rattle.std.specs.Prelude.{◌≡◌, ◌&&◌, ◌||◌, not, cond, ◌+◌, ◌*◌, ◌^◌, ◌≤◌, eqb, leb, ltb, length, get_or, take, drop};
 ghost use Rattle.buffer.specs.Same.{same_key};
 ghost use Rattle.buffer.specs.Key.{direction_of, key_of};
@@ -44,6 +46,7 @@ fn state_fits(configured: bool, s: u8, v: u8, t: u8) -> bool
     }
 }
 
+#[tactic(auto, unfolding(crate::specs::Read::port_fits))]
 fn port_fits(b: &[u8], configured: bool) -> bool
     requires { length b.now ≡ 4 }
     ensures { result ≡ port_fits configured b.now }
@@ -54,6 +57,7 @@ fn port_fits(b: &[u8], configured: bool) -> bool
     state_fits(configured, b[0], b[1], b[2])
 }
 
+#[tactic(auto, unfolding(crate::specs::Rows::every))]
 fn ports_fit(b: &[u8], n: usize, configured: bool) -> bool
     requires { (n ≤ 7) × (length b.now ≡ n * 4) }
     ensures { result ≡ every (port_fits configured) 4 n b.now }
@@ -117,6 +121,7 @@ fn start_length(p: u8, len: u8) -> bool
 }
 
 // A result and its payload. Only data has one.
+#[tactic(auto, unfolding(buffer::specs::Lengths::result_length))]
 fn result_fits(last: u8, len: u8) -> bool
     ensures { result ≡ is_result last && result_length (result_from last) len }
 {
@@ -169,6 +174,7 @@ fn buffer_fits(b: &[u8]) -> bool
     blank_from(b, end)
 }
 
+#[tactic(auto, unfolding(crate::specs::Rows::every))]
 fn buffers_fit(b: &[u8], n: usize) -> bool
     requires { (n ≤ 4) × (length b.now ≡ n * 72) }
     ensures { result ≡ every buffer_fits 72 n b.now }
@@ -213,6 +219,7 @@ fn direction_in(p: u8) -> Direction
 }
 
 // The key that a buffer is held under.
+#[tactic(auto, unfolding(crate::specs::Read::held_split))]
 fn held_key(b: &[u8]) -> Key
     requires { length b.now ≡ 72 }
     ensures { result ≡ key_of (held_split b.now) }
@@ -300,6 +307,7 @@ fn filled_by(b: &[u8], lane: Lane) -> bool
 }
 
 // Whether the lane holds every buffer pending or ready.
+#[tactic(auto, unfolding(crate::specs::Rows::every))]
 fn filled(b: &[u8], n: usize, lane: Lane) -> bool
     requires { (n ≤ 4) × (length b.now ≡ n * 72) }
     ensures { result ≡ every (filled_by lane) 72 n b.now }
@@ -377,6 +385,7 @@ fn removable_fits(n: PortCount, removable: u8) -> bool
     }
 }
 
+#[tactic(auto, unfolding(hub::specs::Hub::new_fits))]
 fn numbers_fit(n: PortCount, b: BufferCount, powergood: u8, current: u8, removable: u8) -> bool
     ensures { result ≡ new_fits n.0 b.0 powergood current removable }
 {
@@ -398,6 +407,7 @@ fn low_fits(k: u8, n: u8) -> bool
     bools::either(k == 1, bools::both(k < 3, n == 0))
 }
 
+#[tactic(auto, unfolding(crate::specs::Read::head_fits))]
 fn head_fits(area: &[u8]) -> bool
     requires { 8 ≤ length area.now }
     ensures { result ≡ head_fits area.now }
@@ -421,6 +431,7 @@ fn size_of(n: PortCount, b: BufferCount) -> usize
 }
 
 // Whether the first bytes are within the rules, and the length is the one that they say.
+#[tactic(auto, unfolding(crate::specs::Read::sized))]
 fn is_sized(area: &[u8]) -> bool
     ensures { result ≡ sized area.now }
 {
@@ -452,6 +463,7 @@ fn rows_fit(area: &[u8]) -> bool
 }
 
 // Whether the area is the written form of a valid hub.
+#[tactic(auto, unfolding(crate::specs::Read::accepts))]
 pub fn is_area(area: &[u8]) -> bool
     ensures { result ≡ accepts area.now }
 {

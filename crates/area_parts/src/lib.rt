@@ -1,4 +1,6 @@
 // Parts of a lent area, one at a time: the numbers of its head, the slots, one buffer, the low side.
+#![tactic(auto)]
+
 ghost use Rattle.std.specs.Prelude.{◌≡◌};
 ghost use Rattle.area_parts.specs.Parts.{head_at, buffer_start, buffer_at, slots_at, low_over, buffer_over, rank_over, store_over};
 ghost use Rattle.area_parts.specs.Claims.{PartsExact};
@@ -9,7 +11,7 @@ use port::PortCount;
 use translator::LowSide;
 
 // What the translator's calls need of the first 8 bytes.
-#[derive(Drop)]
+#[derive(Clone, Copy)]
 pub struct Head {
     pub ports: PortCount,
     pub count: BufferCount,
@@ -44,6 +46,7 @@ fn start_of(ports: PortCount, number: BufferNumber) -> u16
 }
 
 // Buffer `number` of a hub with so many ports; an empty one where the area doesn't have its bytes.
+#[tactic(auto, unfolding(crate::specs::Parts::buffer_at))]
 pub fn buffer_at(area: &[u8], ports: PortCount, number: BufferNumber) -> Buffer
     ensures { result ≡ buffer_at ports.0 number area.now }
 {
@@ -51,6 +54,7 @@ pub fn buffer_at(area: &[u8], ports: PortCount, number: BufferNumber) -> Buffer
 }
 
 // Its slot alone.
+#[tactic(auto, unfolding(crate::specs::Parts::buffer_at))]
 pub fn slot_at(area: &[u8], ports: PortCount, number: BufferNumber) -> Slot
     ensures { result ≡ (buffer_at ports.0 number area.now).slot }
 {
@@ -79,6 +83,7 @@ pub fn write_low(low: LowSide, area: &mut [u8])
 }
 
 // One buffer anew, of a hub with so many ports, where the area has its bytes.
+#[tactic(auto, unfolding(crate::specs::Parts::buffer_over))]
 pub fn write_buffer(ports: PortCount, number: BufferNumber, buffer: Buffer, area: &mut [u8])
     ensures { area.new ≡ buffer_over ports.0 number buffer area.old }
 {
@@ -86,6 +91,7 @@ pub fn write_buffer(ports: PortCount, number: BufferNumber, buffer: Buffer, area
 }
 
 // The buffer with its rank as its place, if it is pending.
+#[tactic(auto, unfolding(crate::specs::Parts::rank_over))]
 fn rerank(slots: [Slot; 4], ports: PortCount, number: BufferNumber, slot: Slot, area: &mut [u8])
     ensures { area.new ≡ rank_over slots ports.0 number slot area.old }
 {

@@ -1,4 +1,6 @@
 // The written form of a call, as a recording holds it: reading one record. docs/CALLS.md lays down its bytes.
+#![tactic(auto)]
+
 ghost use Rattle.std.specs.Prelude.{◌≡◌, ◌+◌, ◌*◌, ◌≤◌, ◌<◌, length, get_or};
 ghost use Rattle.call_bytes.specs.Words.{word_at, half_at, words_at};
 ghost use Rattle.call_bytes.specs.Table.{laid, layout_of, kind_of, numbers_of, carries, is_known};
@@ -7,7 +9,7 @@ ghost use Rattle.call_bytes.specs.Read.{start_of, size_in, seven, recorded_as, n
 ghost use Rattle.call_bytes.specs.Cases.{RecordCases};
 
 // The calls.
-#[derive(Drop)]
+#[derive(Clone, Copy)]
 pub enum CallKind {
     Unknown,
     Control,
@@ -22,7 +24,7 @@ pub enum CallKind {
 }
 
 // A row of the table: the tag, how many numbers the call has, and whether a count of bytes and the bytes follow.
-#[derive(Drop)]
+#[derive(Clone, Copy)]
 pub struct Layout {
     pub tag: u8,
     pub numbers: usize,
@@ -31,7 +33,7 @@ pub struct Layout {
 
 // One record: its call's kind and numbers, where its setup or payload bytes start and how many they are, and the record's length.
 // Unknown if there is none.
-#[derive(Drop)]
+#[derive(Clone, Copy)]
 pub struct Recorded {
     pub kind: CallKind,
     pub numbers: [u32; 7],
@@ -42,6 +44,7 @@ pub struct Recorded {
 
 // ---- the table
 
+#[tactic(auto, unfolding(crate::specs::Table::kind_of, crate::specs::Table::with_tag))]
 fn kind_of(tag: u8) -> CallKind
     ensures { result ≡ kind_of tag }
 {

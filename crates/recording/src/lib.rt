@@ -1,4 +1,6 @@
 // A block of a recorded session: 512 bytes with a number, a count, records and a check. docs/CALLS.md lays them down.
+#![tactic(auto)]
+
 ghost use Rattle.std.specs.Prelude.{◌≡◌, ◌≤◌, ◌<◌, length};
 ghost use Rattle.recording.specs.Claims.{CallsExact, BlockExact};
 ghost use Rattle.recording.specs.Calls.{calls_of, is_some};
@@ -9,7 +11,7 @@ ghost use Rattle.recording.specs.Block.{number_fits, count_fits, records_fit, is
 ghost use Rattle.recording.specs.Cases.{BlockCases};
 
 // Good, or the first thing that is wrong.
-#[derive(Drop)]
+#[derive(Clone, Copy)]
 pub enum Verdict {
     Good,
     BadLength,
@@ -35,6 +37,7 @@ pub fn is_good(verdict: Verdict) -> bool
 // ---- its parts
 
 // The sum of the first words.
+#[tactic(auto, unfolding(crate::specs::Written::sum_to))]
 pub fn word_sum(s: &[u8], words: u16) -> u32
     ensures { result ≡ sum_to s.now words }
 {

@@ -55,7 +55,7 @@ abbrev pub head_with : Answer → ℕ → List ℕ
 head_with a n =
     a.number ∷ n ∷ a.pid ∷ a.transfer ∷ a.lane ∷ a.address ∷ a.endpoint ∷ a.direction ∷ a.lowspeed ∷ a.toggle ∷ []
 
-pub answer_put : (a : Answer) (h o d w : List ℕ) → h ≡ head_bytes a → 74 ≤ length o → length a.bytes ≤ 64 → d ≡ take 10 h ++ drop 10 o
+pub answer_put : (a : Answer) (h o d w : List ℕ) → h ≡ head_bytes a → 74 ≤ length o → length a.bytes ≤ 64 → d ≡ h ++ drop 10 o
     → w ≡ payload.written a.bytes (take (length d - 10) (drop 10 d))
     → put_mid 10 (length d - 10) d w ≡ answer_bytes a ++ drop (length (answer_bytes a)) o
 unfolding answer_bytes payload.written
@@ -71,7 +71,7 @@ answer_put a h o d w eh long short ed ew =
     r = drop 10 o
 
     whole : d ≡ head_bytes a ++ drop 10 o
-    whole = ed ∙ ap (λ (x : List ℕ). take 10 x ++ drop 10 o) eh
+    whole = ed ∙ ap (λ (x : List ℕ). x ++ drop 10 o) eh
 
     rest : drop 10 d ≡ drop 10 o
     rest = ap (drop 10) whole

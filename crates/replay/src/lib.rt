@@ -1,4 +1,6 @@
 // Replay of a recorded session, block by block.
+#![tactic(auto)]
+
 ghost use Rattle.std.specs.Prelude.{◌≡◌, ◌+◌, ◌≤◌, ◌<◌, ◌^◌, length};
 ghost use Rattle.buffer.specs.Buffer.{is_active};
 ghost use Rattle.hub.specs.Method.{outcome_of};
@@ -18,7 +20,7 @@ use hub::{Hub, Stepped};
 use recording::Verdict;
 
 // A tally: of a block, from zero on.
-#[derive(Drop)]
+#[derive(Clone, Copy)]
 pub struct Counts {
     pub stored: u32,
     pub answered: u32,
@@ -140,7 +142,7 @@ fn put_answer(out: &mut [u8], said: Stepped) -> usize
         reply.lowspeed,
         reply.toggle,
     ];
-    bytes::copy(&head, out);
+    out[..10].copy_from_slice(&head);
     payload.give(&mut out[10..]);
     10 + size as usize
 }
@@ -148,7 +150,7 @@ fn put_answer(out: &mut [u8], said: Stepped) -> usize
 // ---- the records of a block
 
 // So far: the hub, the tally, the bytes that were read and those that were written.
-#[derive(Drop)]
+#[derive(Clone, Copy)]
 pub struct Ran {
     pub hub: Hub,
     pub counts: Counts,
@@ -204,7 +206,7 @@ fn run_records(hub: Hub, counts: Counts, s: &[u8], out: &mut [u8]) -> Ran
 
 // What became of a block: the hub that it leaves, its part of the tally, how many bytes were written, and Good or what is wrong with it.
 // Where there is no room for its answers, it isn't looked at.
-#[derive(Drop)]
+#[derive(Clone, Copy)]
 pub struct Block {
     pub enough: bool,
     pub hub: Hub,
