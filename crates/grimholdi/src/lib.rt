@@ -1,5 +1,7 @@
-// The C entries. Port calls read the lent area, call the hub by value and write the area; the translator's calls read the slots of its
-// buffers, decide by them, and write only what changes.
+// What the C entries do; crate grimholdi_c exports them. Port calls read the lent area, call the hub by value and write the area; the translator's
+// calls read the slots of its buffers, decide by them, and write only what changes.
+#![tactic(auto)]
+
 ghost use Rattle.std.specs.Prelude.{◌≡◌, true};
 ghost use Rattle.payload.specs.Payload.{content, payload_of, written as written_bytes};
 ghost use Rattle.buffer.specs.declared.Slot.TheVariants.{Ready, Old};
@@ -30,7 +32,7 @@ use translator::{
 
 // What a call answers; fields that don't apply are 0. The header's grimholdi_answer.
 #[repr(C)]
-#[derive(Drop)]
+#[derive(Clone, Copy)]
 pub struct Answer {
     pub number: u8,
     pub length: u8,
@@ -378,23 +380,20 @@ fn start_split(
 
 // ---- the entries
 
-#[unsafe(no_mangle)]
-pub extern "C" fn grimholdi_version() -> u32
+pub fn grimholdi_version() -> u32
     ensures { result ≡ version }
 {
     500
 }
 
 // The length of the area of a hub; 0 where a number is outside the rules.
-#[unsafe(no_mangle)]
-pub extern "C" fn grimholdi_area_length(ports: u32, buffers: u32) -> usize
+pub fn grimholdi_area_length(ports: u32, buffers: u32) -> usize
     ensures { result ≡ area_length ports buffers }
 {
     area::area_length(ports, buffers)
 }
 
-#[unsafe(no_mangle)]
-pub extern "C" fn grimholdi_new(
+pub fn grimholdi_new(
     area: &mut [u8],
     ports: u32,
     buffers: u32,
@@ -418,13 +417,7 @@ pub extern "C" fn grimholdi_new(
     plain_answer(0)
 }
 
-#[unsafe(no_mangle)]
-pub extern "C" fn grimholdi_control(
-    area: &mut [u8],
-    lane: u32,
-    setup: &[u8],
-    reply: &mut [u8],
-) -> Answer
+pub fn grimholdi_control(area: &mut [u8], lane: u32, setup: &[u8], reply: &mut [u8]) -> Answer
     ensures value { result ≡ (gives area.old (control lane setup.now reply.old)).answer }
     ensures area { area.new ≡ (gives area.old (control lane setup.now reply.old)).area }
     ensures reply { reply.new ≡ (gives area.old (control lane setup.now reply.old)).reply }
@@ -438,8 +431,7 @@ pub extern "C" fn grimholdi_control(
 }
 
 // A poll changes no hub: the area is lent to be read, and stays as `gives` leaves it.
-#[unsafe(no_mangle)]
-pub extern "C" fn grimholdi_poll(area: &[u8], lane: u32, reply: &mut [u8]) -> Answer
+pub fn grimholdi_poll(area: &[u8], lane: u32, reply: &mut [u8]) -> Answer
     ensures value { result ≡ (gives area.now (poll lane reply.old)).answer }
     ensures area { area.now ≡ (gives area.now (poll lane reply.old)).area }
     ensures reply { reply.new ≡ (gives area.now (poll lane reply.old)).reply }
@@ -452,8 +444,7 @@ pub extern "C" fn grimholdi_poll(area: &[u8], lane: u32, reply: &mut [u8]) -> An
     plain_answer(6)
 }
 
-#[unsafe(no_mangle)]
-pub extern "C" fn grimholdi_start_split(
+pub fn grimholdi_start_split(
     area: &mut [u8],
     lane: u32,
     pid: u32,
@@ -475,8 +466,7 @@ pub extern "C" fn grimholdi_start_split(
     plain_answer(6)
 }
 
-#[unsafe(no_mangle)]
-pub extern "C" fn grimholdi_complete_split(
+pub fn grimholdi_complete_split(
     area: &mut [u8],
     lane: u32,
     address: u32,
@@ -494,8 +484,7 @@ pub extern "C" fn grimholdi_complete_split(
     plain_answer(6)
 }
 
-#[unsafe(no_mangle)]
-pub extern "C" fn grimholdi_launch(area: &mut [u8], reply: &mut [u8]) -> Answer
+pub fn grimholdi_launch(area: &mut [u8], reply: &mut [u8]) -> Answer
     ensures value { result ≡ (gives area.old (launch reply.old)).answer }
     ensures area { area.new ≡ (gives area.old (launch reply.old)).area }
     ensures reply { reply.new ≡ (gives area.old (launch reply.old)).reply }
@@ -506,8 +495,7 @@ pub extern "C" fn grimholdi_launch(area: &mut [u8], reply: &mut [u8]) -> Answer
     plain_answer(6)
 }
 
-#[unsafe(no_mangle)]
-pub extern "C" fn grimholdi_deliver(area: &mut [u8], res: u32, payload: &[u8]) -> Answer
+pub fn grimholdi_deliver(area: &mut [u8], res: u32, payload: &[u8]) -> Answer
     ensures value { result ≡ (gives area.old (deliver res payload.now)).answer }
     ensures area { area.new ≡ (gives area.old (deliver res payload.now)).area }
 {
@@ -517,8 +505,7 @@ pub extern "C" fn grimholdi_deliver(area: &mut [u8], res: u32, payload: &[u8]) -
     plain_answer(6)
 }
 
-#[unsafe(no_mangle)]
-pub extern "C" fn grimholdi_line_event(area: &mut [u8], event: u32, port: u32) -> Answer
+pub fn grimholdi_line_event(area: &mut [u8], event: u32, port: u32) -> Answer
     ensures value { result ≡ (gives area.old (line_event event port)).answer }
     ensures area { area.new ≡ (gives area.old (line_event event port)).area }
 {
@@ -530,8 +517,7 @@ pub extern "C" fn grimholdi_line_event(area: &mut [u8], event: u32, port: u32) -
     plain_answer(6)
 }
 
-#[unsafe(no_mangle)]
-pub extern "C" fn grimholdi_tick(area: &mut [u8]) -> Answer
+pub fn grimholdi_tick(area: &mut [u8]) -> Answer
     ensures value { result ≡ (gives area.old tick).answer }
     ensures area { area.new ≡ (gives area.old tick).area }
 {
@@ -543,8 +529,7 @@ pub extern "C" fn grimholdi_tick(area: &mut [u8]) -> Answer
     plain_answer(6)
 }
 
-#[unsafe(no_mangle)]
-pub extern "C" fn grimholdi_bus_reset(area: &mut [u8]) -> Answer
+pub fn grimholdi_bus_reset(area: &mut [u8]) -> Answer
     ensures value { result ≡ (gives area.old bus_reset).answer }
     ensures area { area.new ≡ (gives area.old bus_reset).area }
 {

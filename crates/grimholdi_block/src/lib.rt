@@ -1,4 +1,6 @@
 // The entries that write a block of a recording in lent memory.
+#![tactic(auto)]
+
 ghost use Rattle.std.specs.Prelude.{◌≡◌, ◌+◌, ◌≤◌, length};
 ghost use Rattle.call_bytes.specs.Words.{half};
 ghost use Rattle.recording.specs.Written.{count_of};
@@ -12,7 +14,7 @@ fn put(block: &mut [u8], at: usize, part: &[u8])
     ensures { block.new ≡ placed at part.now block.old }
 {
     let end = at + part.len();
-    bytes::copy(part, &mut block[at..end]);
+    block[at..end].copy_from_slice(part);
 }
 
 fn half_bytes(n: u32) -> [u8; 2]

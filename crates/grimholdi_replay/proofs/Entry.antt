@@ -7,7 +7,7 @@ use mathlib.Core.List.{List}
 use lib.ListN.{length}
 use Rattle.hub.specs.declared.Hub.{Hub}
 use Rattle.runs.specs.Tally.{active_buffers}
-use Rattle.area.specs.Written.{written, written_over}
+use Rattle.area.specs.Written.{written_over}
 use Rattle.area.specs.declared.Read.{Read}
 use Rattle.area.specs.Read.{read_of}
 use Rattle.replay.specs.declared.Block.{Block}

@@ -1,4 +1,6 @@
 // The entry that replays a block of a recording on the hub of a lent area.
+#![tactic(auto)]
+
 ghost use Rattle.std.specs.Prelude.{◌≡◌};
 ghost use Rattle.grimholdi_replay.specs.Entry.{refusal_number, plain_replayed, block_entry};
 ghost use Rattle.grimholdi_replay.specs.Replays.{EntryReplays};
@@ -7,7 +9,7 @@ use recording::Verdict;
 
 // What became of a block. The header's grimholdi_replayed.
 #[repr(C)]
-#[derive(Drop)]
+#[derive(Clone, Copy)]
 pub struct Replayed {
     pub number: u8,
     pub refusal: u8,

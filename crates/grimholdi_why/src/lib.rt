@@ -1,4 +1,6 @@
 // The explaining entries: why a call would be answered as it is. The area is only read, and the call is not made.
+#![tactic(auto)]
+
 ghost use Rattle.std.specs.Prelude.{◌≡◌};
 ghost use Rattle.hub.specs.Call.Call.{Control, Poll, Start, Complete, Launch, Deliver, Event, Tick, BusReset};
 ghost use Rattle.why.specs.Bytes.{bytes_of};
