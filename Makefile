@@ -9,7 +9,7 @@ LIBRARY ?= $(PROVED)
 PREFIX ?= /usr/local
 
 .DEFAULT_GOAL := test
-.PHONY: test check check-texts port-chart lib install uninstall
+.PHONY: test check check-texts update-texts port-chart lib install uninstall
 
 include tests/tests.mk
 
@@ -17,14 +17,13 @@ test:
 	.ci/run
 
 check: check-texts
-	rt check
+	rt all test
 
 # Without a proof: the expected table of the port is the one that a model of its own writes, from the rules as document 01, corrected by C-12,
 # words them, and so are its chart and the chart's constant, which docs/PORTS.svg and docs/PORTS.md show; the claims that
 # docs/PROMISES.md names are those that functions ensure; docs/READING.md names every specification with its lines;
 # docs/ARCHITECTURE.svg shows the crates as they are; the constants of the headers are the numbers of the specs.
 check-texts:
-	rt fmt --check
 	python3 tests/port_table.py --self-test
 	python3 tests/port_table.py | cmp - crates/port_table/stdout
 	python3 tests/port_chart.py --self-test
@@ -42,6 +41,12 @@ check-texts:
 	python3 tests/constants.py
 	python3 tests/constants.py --self-test
 
+# Writes anew what is made from the sources: the lines in docs/READING.md, the picture of the crates, the picture and the chart of a port.
+update-texts:
+	python3 tests/reading.py --update
+	python3 tests/architecture.py
+	python3 tests/ports_picture.py --update
+
 # The rules of a port as a chart, which docs/PORTS.md explains: what the program `port_chart` prints; the gate holds it to this file.
 port-chart:
 	@cat crates/port_chart/stdout
@@ -49,15 +54,17 @@ port-chart:
 lib: $(LIBRARY)
 
 # Four objects: the calls, what explains them, what writes a recording and what replays it. A firmware links those that it uses.
-OBJECTS := grimholdi grimholdi_why grimholdi_block grimholdi_replay
+OBJECTS := grimholdi_c grimholdi_why grimholdi_block grimholdi_replay
+TAKEN := $(TARGET)/objects
 
-# rt writes into target/, wherever TARGET is; the archive alone goes to TARGET.
-$(PROVED): crates.txt $(shell find crates -name '*.rt' -o -name '*.antt')
-	set -e; for object in $(OBJECTS); do rt staticlib $$object; done
-	set -e; cd target/staticlib; for object in $(OBJECTS); do $(AR) x lib$$object.a; done
-	mkdir -p $(@D)
+# rt writes into crates/NAME/out/, wherever TARGET is; the objects and the archive go to TARGET.
+$(PROVED): crates.txt $(shell find crates -name out -prune -o \( -name '*.rt' -o -name '*.antt' \) -print)
+	set -e; for object in $(OBJECTS); do (cd crates/$$object && rt lib); done
+	rm -rf $(TAKEN)
+	mkdir -p $(TAKEN)
+	set -e; cd $(TAKEN); for object in $(OBJECTS); do $(AR) x $(CURDIR)/crates/$$object/out/lib$$object.a; done
 	rm -f $@
-	$(AR) rcs $@ $(OBJECTS:%=target/staticlib/%.o)
+	$(AR) rcs $@ $(OBJECTS:%=$(TAKEN)/%.o)
 
 # The version stands in the header alone.
 VERSION = $(shell awk '$$1 ~ /define$$/ && $$2 ~ /^GRIMHOLDI_VERSION_(MAJOR|MINOR|PATCH)$$/ { printf "%s%s", dot, $$3; dot = "." }' include/grimholdi.h)

@@ -82,7 +82,8 @@ def parts():
 
 def code_of(texts, crate):
     code = "\n".join(texts[path] for path in in_folder(texts, crate, "src"))
-    return re.sub(r"//[^\n]*|^\s*ghost use [^;]*;", "", code, flags=re.M)
+    return re.sub(r"//[^\n]*|^\s*ghost use [^;]*;|#!?\[tactic\b[^]]*\]", "",
+                  code, flags=re.M)
 
 
 def calls_of(texts):

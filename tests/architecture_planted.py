@@ -43,6 +43,10 @@ PLANTS = [
      "`port_table` builds on `hub` and stands neither above nor beside it"),
     ("a crate that builds on one less", changed(CRATES, "isolation: runs ",
                                                 "isolation: "), OLD_PICTURE),
+    ("code that calls one more", added("crates/area_check/src/lib.rt",
+                                       "fn spare() -> u8\n{\n    "
+                                       "hub::first_refusal()\n}\n"),
+     OLD_PICTURE),
     ("code among claims", added("crates/isolation/src/lib.rt",
                                 "fn spare() -> u8\n{\n    0\n}\n"),
      OLD_PICTURE),

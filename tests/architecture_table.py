@@ -90,6 +90,8 @@ LAYERS = (
     Layer(("C entries",), (
         Part("grimholdi", 10, (3, 3), ("the calls, on a",
                                        "lent area")),
+        Part("grimholdi_c", 11, (3, 3), ("the calls' C functions,",
+                                         "nothing else")),
         Part("grimholdi_why", 10, (2, 2), ("explains a call;",
                                            "the area is only read")),
         Part("grimholdi_block", 10, (5, 5), ("writes a block in",
@@ -110,18 +112,18 @@ LAYERS = (
 )
 
 # The C side, above the crates; the header lies on the entries.
-HEADER = Part("include/", 11, (1, 5), (
+HEADER = Part("include/", 12, (1, 5), (
     "the header, with each call's contract in plain words, and header-only C",
 ))
 C_SIDE = (
     Layer(("C interface",), (HEADER,)),
     Layer(("C programs",), (
-        Part("examples/", 12, (2, 2), ("an example firmware,", "in scenes")),
-        Part("tools/why", 12, (3, 3), ("tells why a call got",
+        Part("examples/", 13, (2, 2), ("an example firmware,", "in scenes")),
+        Part("tools/why", 13, (3, 3), ("tells why a call got",
                                        "its answer")),
-        Part("tools/replay", 12, (4, 4), ("replays a recorded",
+        Part("tools/replay", 13, (4, 4), ("replays a recorded",
                                           "session")),
-        Part("tests/", 12, (5, 5), ("C and C++ tests,",
+        Part("tests/", 13, (5, 5), ("C and C++ tests,",
                                     "model in Rust")),
     )),
 )

@@ -31,7 +31,7 @@ STALL = Place("hub", "Call", "stall")
 NOTHING = Place("hub", "Call", "gives_nothing")
 DATA = Place("hub", "Call", "gives")
 DESCRIPTOR = Place("hub", "Requests", "descriptor")
-REFUSALS = Place("runs", "Refusals", "numberOf")
+REFUSALS = Place("runs", "Refusals", "number_of")
 OVER_ADDRESS = Place("runs", "Refusals", "OverAddress")
 OVER_ENDPOINT = Place("runs", "Refusals", "OverEndpoint")
 OVER_PAYLOAD = Place("runs", "Refusals", "OverPayload")
@@ -73,7 +73,7 @@ ASKS_FOR = Place("request", "Fields", "AsksFor")
 STATES = Place("port", "Numbers", "state_number")
 SPEEDS = Place("port", "Numbers", "speed_number")
 AREA_LENGTH = Place("area", "Written", "area_length")
-LAYOUTS = Place("call_bytes", "Table", "layoutOf")
+LAYOUTS = Place("call_bytes", "Table", "layout_of")
 WRITABLE = Place("recording", "Written", "Writable")
 PADDED = Place("recording", "Written", "padded")
 COUNT_RIGHT = Place("recording", "Refusals", "CountRight")
@@ -84,9 +84,9 @@ ANSWERS_LENGTH = Place("replay", "Answers", "answers_length")
 BLOCK_REFUSALS = Place("grimholdi_replay", "Entry", "refusal_number")
 REPLAYED = Place("grimholdi_replay", "Entry", "replayed_as")
 REPLAY = Place("grimholdi_replay", "Entry", "block_entry")
-IS_NUMBER = Place("why", "Said", "isNumber")
+IS_NUMBER = Place("why", "Said", "is_number")
 FAULTS = Place("why", "Said", "place")
-REASONS = Place("why", "Bytes", "bytesOf")
+REASONS = Place("why", "Bytes", "bytes_of")
 NO_CHANGES = Place("why", "Bytes", "plain_bytes")
 
 
@@ -180,9 +180,9 @@ COMPARED = [
     Shape(UNKNOWN_LANE, "= # < z", ["LANE_MAX"]),
     Shape(OVER_ADDRESS, "= # < a", ["ADDRESS_MAX"]),
     Shape(OVER_ENDPOINT, "= # < e", ["ENDPOINT_MAX"]),
-    Shape(NUMBERS_FIT, "ltb (s .address .0) # && ltb (s .endpoint) #",
+    Shape(NUMBERS_FIT, "ltb s.address.0 # && ltb s.endpoint #",
           [below("ADDRESS_MAX"), below("ENDPOINT_MAX")]),
-    Shape(PIPE_IN_RANGE, "= (k .address .0 < #) × (k .endpoint < #)",
+    Shape(PIPE_IN_RANGE, "= (k.address.0 < #) × (k.endpoint < #)",
           [below("ADDRESS_MAX"), below("ENDPOINT_MAX")]),
     Shape(OVER_PAYLOAD, "= # < n", ["PAYLOAD_MAX"]),
     Cases(START_LENGTH, {"Out": Said("leb n #", ["PAYLOAD_MAX"]),
@@ -232,7 +232,7 @@ COMPARED = [
           ["ANSWER_NOT_NOW"]),
     Shape(NEW_HUB, "number = #; hub = hub_of n b g c r", ["ANSWER_DONE"]),
     Shape(NEW_HUB, "number = #; hub = hub_of 0 0 0 0 0", ["ANSWER_OUTSIDE"]),
-    Shape(NEW_HUBS, "(f a n b g c r .answer .number ≡ #)",
+    Shape(NEW_HUBS, "((f a n b g c r).answer.number ≡ #)",
           ["ANSWER_OUTSIDE"]),
     Shape(NEW_HUBS, "answer = ? #;", ["ANSWER_DONE"]),
     Shape(ENTRY_REFUSED, "answer = ? #;", ["ANSWER_OUTSIDE"]),
@@ -271,17 +271,17 @@ COMPARED = [
                                   "HUB_DESCRIPTOR"]),
         "GetHubStatus": Said("s ≡ fields # # 0 0 4",
                              ["TYPE_GET_HUB", "REQUEST_GET_STATUS"]),
-        "GetPortStatus": Said("Among n p × (s ≡ fields # # 0 (p .0) 4)",
+        "GetPortStatus": Said("Among n p × (s ≡ fields # # 0 p.0 4)",
                               ["TYPE_GET_PORT", "REQUEST_GET_STATUS"]),
         "ClearHubFeature": Said("(s ≡ fields # # # 0 0) "
                                 "⊎ (s ≡ fields # # # 0 0)",
                                 CLEAR_HUB + ["C_HUB_LOCAL_POWER"]
                                 + CLEAR_HUB + ["C_HUB_OVER_CURRENT"]),
         "ClearPortFeature": Said("Among n p × (s ≡ fields # # "
-                                 "(clearable_number f) (p .0) 0)",
+                                 "(clearable_number f) p.0 0)",
                                  [SET_PORT, "REQUEST_CLEAR_FEATURE"]),
         "SetPortFeature": Said("Among n p × (s ≡ fields # # "
-                               "(settable_number f) (p .0) 0)",
+                               "(settable_number f) p.0 0)",
                                [SET_PORT, "REQUEST_SET_FEATURE"]),
         "ClearTTBuffer": Said("PipeInRange k × "
                               "((s ≡ fields # # (pipe_value # k) 1 0) "
@@ -291,7 +291,7 @@ COMPARED = [
         "ResetTT": Said("s ≡ fields # # 0 1 0",
                         [SET_PORT, "REQUEST_RESET_TT"]),
     }, before="n s"),
-    Shape(DESCRIPTOR, "descriptor i = # ∷ # ∷ i .ports",
+    Shape(DESCRIPTOR, "descriptor i = # ∷ # ∷ i.ports",
           ["HUB_DESCRIPTOR_LENGTH", high_byte("HUB_DESCRIPTOR")]),
     Count(DESCRIPTOR, "HUB_DESCRIPTOR_LENGTH"),
     Cases(SETTABLES, {"Suspend": "PORT_SUSPEND", "Reset": "PORT_RESET",
@@ -302,28 +302,28 @@ COMPARED = [
                     "Enable": "C_PORT_ENABLE", "Suspend": "C_PORT_SUSPEND",
                     "OverCurrent": "C_PORT_OVER_CURRENT",
                     "Reset": "C_PORT_RESET"}),
-    Shape(PIPE_VALUE, "t k = k .endpoint + # *",
+    Shape(PIPE_VALUE, "t k = k.endpoint + # *",
           [unshifted("TT_ENDPOINT_SHIFT")]),
-    Shape(PIPE_VALUE, "= k .endpoint + # * (k .address .0) + # * t "
-          "+ # * direction_bit (k .direction)",
+    Shape(PIPE_VALUE, "= k.endpoint + # * k.address.0 + # * t "
+          "+ # * direction_bit k.direction",
           [shift("TT_ADDRESS_SHIFT"), shift("TT_TRANSFER_SHIFT"),
            shift("TT_DIRECTION_SHIFT")]),
     Cases(DIRECTION_BITS, {"Out": "DIRECTION_OUT", "In": "DIRECTION_IN"}),
 
     # Status.
-    Bits(STATUS_LOW, 0, {"port_connection (p .state)": "STATUS_CONNECTION",
-                         "port_enable (p .state)": "STATUS_ENABLE",
-                         "port_suspend (p .state)": "STATUS_SUSPEND",
-                         "p .overcurrent": "STATUS_OVER_CURRENT",
-                         "port_reset (p .state)": "STATUS_RESET"}),
-    Bits(STATUS_HIGH, 8, {"port_power (p .state)": "STATUS_POWER",
-                          "port_low_speed (p .state)": "STATUS_LOW_SPEED",
-                          "port_high_speed (p .state)": "STATUS_HIGH_SPEED"}),
-    Bits(CHANGE_LOW, 0, {"c .connection": "CHANGE_CONNECTION",
-                         "c .enable": "CHANGE_ENABLE",
-                         "c .suspend": "CHANGE_SUSPEND",
-                         "c .overcurrent": "CHANGE_OVER_CURRENT",
-                         "c .reset": "CHANGE_RESET"}),
+    Bits(STATUS_LOW, 0, {"port_connection p.state": "STATUS_CONNECTION",
+                         "port_enable p.state": "STATUS_ENABLE",
+                         "port_suspend p.state": "STATUS_SUSPEND",
+                         "p.overcurrent": "STATUS_OVER_CURRENT",
+                         "port_reset p.state": "STATUS_RESET"}),
+    Bits(STATUS_HIGH, 8, {"port_power p.state": "STATUS_POWER",
+                          "port_low_speed p.state": "STATUS_LOW_SPEED",
+                          "port_high_speed p.state": "STATUS_HIGH_SPEED"}),
+    Bits(CHANGE_LOW, 0, {"c.connection": "CHANGE_CONNECTION",
+                         "c.enable": "CHANGE_ENABLE",
+                         "c.suspend": "CHANGE_SUSPEND",
+                         "c.overcurrent": "CHANGE_OVER_CURRENT",
+                         "c.reset": "CHANGE_RESET"}),
 
     # Reasons.
     Cases(REASONS, {"Nothing": "WHY_NONE", "Number": "WHY_NUMBER",
@@ -340,7 +340,7 @@ COMPARED = [
     # Recordings.
     Shape(RIGHT, "BadLength p l = length l ≡ #", ["BLOCK_LENGTH"]),
     Shape(UNDER_WAY, "length l ≡ #", ["BLOCK_LENGTH"]),
-    Shape(COUNT_RIGHT, "countOf l ≤ #", ["BLOCK_USED_MAX"]),
+    Shape(COUNT_RIGHT, "count_of l ≤ #", ["BLOCK_USED_MAX"]),
     Shape(PADDED, "replicate (# - length used) 0", ["BLOCK_USED_MAX"]),
     Shape(WRITABLE, "length (written_all cs) ≤ #", ["RECORD_SPACE"]),
     Shape(WRITABLE, "p ≤ #", ["BLOCK_NUMBER_MAX"]),
@@ -348,7 +348,7 @@ COMPARED = [
           ["BLOCK_LENGTH", "BLOCK_NUMBER_MAX", "ANSWER_DONE"]),
     Shape(WRITER, "(p ≤ #))) → start_entry l p ≡ ? # l",
           ["BLOCK_NUMBER_MAX", "ANSWER_OUTSIDE"]),
-    Shape(WRITER, "# < countOf l + length r → add_entry l r ≡ ? # l",
+    Shape(WRITER, "# < count_of l + length r → add_entry l r ≡ ? # l",
           ["BLOCK_USED_MAX", "ANSWER_NAK"]),
     Shape(ANSWERS_LENGTH, "= #", ["ANSWERS_LENGTH"]),
     Shape(REPLAYED, "number = #;", ["ANSWER_DONE"]),

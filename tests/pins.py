@@ -6,11 +6,10 @@ pins.py --table      prints the table "Pinned claims" from the code
 pins.py --self-test  plants faults and fails unless each is found
 
 A pin is a function of crates/*/src with an empty body and the contract
-    ensures { λ _. ⌜ CLAIM ⌝ }
+    ensures { CLAIM }
 alone: it proves the claim and does nothing else.  Or it hands out a constant,
-takes and requires nothing, and its contract is
-    ensures { λ r. ⌜ CLAIM ⌝ }
-alone, a claim of its result.  Demanded is that
+takes and requires nothing, and its contract is that alone, where CLAIM names
+its `result`.  Demanded is that
 - the table has a row for each pin, with exactly its statement, and no other;
 - the claim is explained: a line elsewhere in docs/PROMISES.md names it and
   its crate;
@@ -20,7 +19,9 @@ alone, a claim of its result.  Demanded is that
 - every capitalised definition in specs/ is reached from a contract.  One that
   takes nothing, so that it is a whole claim, has to be reached from a pin or
   from what another function ensures; a `requires` shows nothing of it;
-- every public function has an `ensures`.
+- every public function has an `ensures`;
+- a crate NAME_c, which exports the functions of crate NAME to C, gives each
+  the same arguments and the same clauses.
 
 What is reached is found by names alone: a contract reaches each definition
 that its text names, and a definition those that its own text names, comments
@@ -46,8 +47,8 @@ COLUMNS = ["| Claim | Function | Crate |", "|---|---|---|"]
 FUNCTION = re.compile(r'((?:#\[[^]]*\]\s*)*)(pub\s+)?(?:extern\s+"C"\s+)?'
                       r"fn\s+(\w+)")
 CLAUSE = re.compile(r"\b(requires|ensures)\b[^{]*$")
-STATED = re.compile(r"λ _\. ⌜ ([A-Z].*) ⌝")
-STATED_OF_RESULT = re.compile(r"λ r\. ⌜ ([A-Z].*\br\b.*) ⌝")
+STATED = re.compile(r"(?!.*\bresult\b)([A-Z].*)")
+STATED_OF_RESULT = re.compile(r"([A-Z].*\bresult\b.*)")
 DEFINITION = re.compile(r"(?:pub )?(?:abbrev|unfoldable|opaque|record|data) "
                         r"(?:pub )?([^\s:]+)(.*)")
 TAKES_NOTHING = re.compile(r"\s*:\s*Type \d+(?: where)?")
@@ -110,7 +111,7 @@ def crates_of(texts):
     """The crates in their order, each with those that it builds on."""
     lines = [line for line in texts[CRATES].splitlines()
              if ":" in line and not line.startswith("#")]
-    return {line.split(":")[0].strip(): line.split(":")[1].split()
+    return {line.split(":")[0].split()[0]: line.split(":")[1].split()
             for line in lines}
 
 
@@ -216,7 +217,7 @@ class Project:
         stated = STATED.fullmatch(function.ensures[0])
         if stated is None or len(function.ensures) != 1:
             self.fault("%s: fn %s has an empty body, and its contract is not "
-                       "one `ensures { λ _. ⌜ CLAIM ⌝ }`", function.file,
+                       "one `ensures { CLAIM }`", function.file,
                        function.name)
             return []
         if function.requires or function.takes:
@@ -264,6 +265,7 @@ class Project:
         self.check_defined()
         self.check_reached()
         self.check_ensured()
+        self.check_exported()
         return self.faults
 
     def check_crates(self):
@@ -358,7 +360,7 @@ class Project:
 
     def imported_from(self, pin):
         """The crate whose specs/ the pin's file takes the claim from."""
-        line = re.compile(r"ghost use Rattle·(\w+)(?:·specs)?\.[\w.]*"
+        line = re.compile(r"ghost use Rattle\.(\w+)\.specs\.[\w.]*"
                           r"\.\{[^}]*\b%s\b" % pin.claim_name())
         crates = {found.group(1)
                   for file in in_folder(self.texts, pin.crate, "src")
@@ -388,6 +390,23 @@ class Project:
             if function.is_public and not function.ensures:
                 self.fault("%s: fn %s is public and ensures nothing",
                            function.file, function.name)
+
+    def check_exported(self):
+        promised = {(function.crate + "_c", function.name): asked_of(function)
+                    for function in self.functions}
+        for function in self.functions:
+            if function.crate.endswith("_c") and function.is_public \
+                    and promised.get((function.crate, function.name)) \
+                    != asked_of(function):
+                self.fault("%s: fn %s has not the arguments and clauses of "
+                           "crate %s's", function.file, function.name,
+                           function.crate[:-2])
+
+
+def asked_of(function):
+    """What a function takes, requires and ensures, however it is laid out."""
+    takes = " ".join(function.takes.split()).rstrip(",")
+    return takes, function.requires, function.ensures
 
 
 def faults_of(texts):

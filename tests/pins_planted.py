@@ -8,6 +8,9 @@ HEADING = "## Pinned claims"
 CHART = "crates/chart/src/lib.rt"
 RUNS = "crates/runs/src/lib.rt"
 ENTRIES = "crates/grimholdi/src/lib.rt"
+EXPORTS = "crates/grimholdi_c/src/lib.rt"
+LAUNCHED = ("    ensures reply { reply.new ≡ (gives area.old "
+            "(launch reply.old)).reply }\n")
 DEMAND_3 = "| `Demand3 rules` | `demand_3` | `runs` |\n"
 
 
@@ -46,7 +49,7 @@ def left_out_of_crates(texts):
     texts["crates/spare/src/lib.rt"] = ""
 
 
-PIN = "fn demand_3()\n    ensures { λ _. ⌜ Demand3 rules ⌝ }\n{}\n"
+PIN = "fn demand_3()\n    ensures { Demand3 rules }\n{}\n"
 
 # What is planted, and a fault that has to be found.
 PLANTS = [
@@ -57,17 +60,17 @@ PLANTS = [
         RUNS, PIN, "".join("// " + line + "\n" for line in PIN.splitlines())),
      "crates/runs/src: no fn demand_3 pins `Demand3 rules`, as the table of "
      "docs/PROMISES.md says"),
-    ("a pin that says less", changed(RUNS, "⌜ Demand3 rules ⌝",
-                                     "⌜ Demand2 rules ⌝"),
+    ("a pin that says less", changed(RUNS, "{ Demand3 rules }",
+                                     "{ Demand2 rules }"),
      "crates/runs/src: fn demand_3 ensures `Demand2 rules`; the table of "
      "docs/PROMISES.md says `Demand3 rules`"),
-    ("a pin of another machine", changed(RUNS, "⌜ Demand3 rules ⌝",
-                                         "⌜ Demand3 other ⌝"),
+    ("a pin of another machine", changed(RUNS, "{ Demand3 rules }",
+                                         "{ Demand3 other }"),
      "crates/runs/src: fn demand_3 ensures `Demand3 other`; the table of "
      "docs/PROMISES.md says `Demand3 rules`"),
     ("a pin that requires its claim", changed(
         RUNS, "fn demand_3()\n",
-        "fn demand_3()\n    requires { ⌜ Demand3 rules ⌝ }\n"),
+        "fn demand_3()\n    requires { Demand3 rules }\n"),
      "crates/runs/src/lib.rt: fn demand_3 has an empty body and takes or "
      "requires something, so that it does not show Demand3 rules"),
     ("a pin for every argument alone", changed(
@@ -75,18 +78,18 @@ PLANTS = [
      "crates/runs/src/lib.rt: fn demand_3 has an empty body and takes or "
      "requires something, so that it does not show Demand3 rules"),
     ("a pin with two clauses", changed(
-        RUNS, "    ensures { λ _. ⌜ Demand3 rules ⌝ }\n",
-        "    ensures { λ _. ⌜ Demand3 rules ⌝ }\n"
-        "    ensures more { λ _. ⌜ Reached ⌝ }\n"),
+        RUNS, "    ensures { Demand3 rules }\n",
+        "    ensures { Demand3 rules }\n"
+        "    ensures more { Reached }\n"),
      "crates/runs/src/lib.rt: fn demand_3 has an empty body, and its contract "
-     "is not one `ensures { λ _. ⌜ CLAIM ⌝ }`"),
+     "is not one `ensures { CLAIM }`"),
     ("a claim of a result dropped", changed(
-        CHART, "EnginesAgree (looked_up r)", "r ≡ r"),
-     "crates/chart/src: no fn chart pins `EnginesAgree (looked_up r)`, as the "
+        CHART, "EnginesAgree (looked_up result)", "result ≡ result"),
+     "crates/chart/src: no fn chart pins `EnginesAgree (looked_up result)`, as the "
      "table of docs/PROMISES.md says"),
     ("a claim of a result for every argument alone", changed(
         CHART, "pub fn chart()", "pub fn chart(never: Never)"),
-     "crates/chart/src: no fn chart pins `EnginesAgree (looked_up r)`, as the "
+     "crates/chart/src: no fn chart pins `EnginesAgree (looked_up result)`, as the "
      "table of docs/PROMISES.md says"),
     ("a pin that the table lacks", changed(PROMISES, DEMAND_3, ""),
      "docs/PROMISES.md: the table lacks `Demand3 rules`, which fn demand_3 of "
@@ -130,8 +133,8 @@ PLANTS = [
      "crates/runs/specs: no definition of `Demand3`, which fn demand_3 of "
      "crate runs ensures"),
     ("a claim from a crate that is not below", changed(
-        RUNS, "ghost use Rattle·runs·specs.specs.Demand3.{Demand3};",
-        "ghost use Rattle·why.specs.Demand3.{Demand3};"),
+        RUNS, "ghost use Rattle.runs.specs.Demand3.{Demand3};",
+        "ghost use Rattle.why.specs.Demand3.{Demand3};"),
      "crates/runs/specs: no definition of `Demand3`, which fn demand_3 of "
      "crate runs ensures"),
     ("a claim dropped from the one that held it", changed(
@@ -147,8 +150,8 @@ PLANTS = [
     ("a claim that is only required", lambda texts: (
         added("crates/runs/specs/Demand3.antt",
               "\nabbrev pub Spare : Type 0\nSpare = Reached\n")(texts),
-        added(RUNS, "\nfn spare()\n    requires { ⌜ Spare ⌝ }\n    ensures "
-              "{ λ r. ⌜ r ≡ 0 ⌝ }\n{\n    0\n}\n")(texts)),
+        added(RUNS, "\nfn spare()\n    requires { Spare }\n    ensures "
+              "{ result ≡ 0 }\n{\n    0\n}\n")(texts)),
      "crates/runs/specs/Demand3.antt: no pin reaches `Spare`, and no function "
      "ensures it"),
     ("a claim about a machine that nothing states", added(
@@ -158,15 +161,23 @@ PLANTS = [
      "crates/runs/specs/Demand3.antt: no pin reaches `SpareExact`, and no "
      "contract names it"),
     ("an entry that ensures nothing", added(
-        ENTRIES, '\n#[no_mangle]\npub extern "C" fn grimholdi_spare(n: u32) '
+        ENTRIES, '\n#[unsafe(no_mangle)]\npub extern "C" fn grimholdi_spare(n: u32) '
         "-> u32\n{\n    n\n}\n"),
      "crates/grimholdi/src/lib.rt: fn grimholdi_spare is public and ensures "
      "nothing"),
     ("an entry that only requires", added(
-        ENTRIES, '\n#[no_mangle]\npub extern "C" fn grimholdi_spare(n: u32) '
-        "-> u32\n    requires { ⌜ n ≤ 1 ⌝ }\n{\n    n\n}\n"),
+        ENTRIES, '\n#[unsafe(no_mangle)]\npub extern "C" fn grimholdi_spare(n: u32) '
+        "-> u32\n    requires { n ≤ 1 }\n{\n    n\n}\n"),
      "crates/grimholdi/src/lib.rt: fn grimholdi_spare is public and ensures "
      "nothing"),
+    ("an export that says less", changed(EXPORTS, LAUNCHED, ""),
+     "crates/grimholdi_c/src/lib.rt: fn grimholdi_launch has not the "
+     "arguments and clauses of crate grimholdi's"),
+    ("an export of another length", changed(
+        EXPORTS, "grimholdi_tick(area: &mut [u8])",
+        "grimholdi_tick(area: &mut [u8], ticks: u32)"),
+     "crates/grimholdi_c/src/lib.rt: fn grimholdi_tick has not the "
+     "arguments and clauses of crate grimholdi's"),
     ("a crate that crates.txt lacks", left_out_of_crates,
      "crates/spare/src/lib.rt: crate spare is not in crates.txt"),
 ]

@@ -41,7 +41,7 @@ SUM = re.compile(r"\| ([^|]+) \| ([\d,]+) \| ([\d,]+) \| ([\d,]+) \|$")
 MARK = "-- Internal, pinned by "
 SKIPPED = re.compile(r"\s*($|--|(ghost )?use |pub mod )")
 TYPE = re.compile(r"(?:abbrev|unfoldable)(?: pub)? \S+ :")
-IMPORT = re.compile(r"^use Rattle·(\w+?)(?:·specs)?\.specs\.(\w+)", re.M)
+IMPORT = re.compile(r"^use Rattle\.(\w+)\.specs\.(\w+)", re.M)
 
 
 def read_texts(root):
@@ -234,7 +234,7 @@ PLANTS = [
     (replaced(path_of("hub", "Step"), "-- ", MARK + "-- "),
      "starts with"),
     (replaced(path_of("hub", "Step"), "\nuse ",
-              "\nuse Rattle·hub·specs.specs.Cases.{p1}\nuse "),
+              "\nuse Rattle.hub.specs.Cases.{p1}\nuse "),
      "imports hub/specs/Cases"),
     (replaced(READING, "## " + EVIDENCE, "## Proof"),
      "a table in the section 'Proof'"),

@@ -221,11 +221,12 @@ test-replay: $(TARGET)/replay $(SESSION) $(SESSION_ANSWERS) model
 	python3 -B tests/tools/test_replay.py $(SESSION) $(SESSION_ANSWERS) \
 		$(MODEL) $(REPLAY_UNDER) $(TARGET)/replay
 
-# The program is proved and compiled by rt, which writes into target/.
-ENGINES := target/bin/port_engines
+# The program is proved and compiled by rt, which writes into crates/NAME/out/.
+ENGINES := crates/port_engines/out/port_engines
 $(ENGINES): crates.txt $(shell find crates/bools crates/port crates/chart \
-		crates/port_engines -name '*.rt' -o -name '*.antt')
-	rt check port_engines
+		crates/port_engines -name out -prune -o \
+		\( -name '*.rt' -o -name '*.antt' \) -print)
+	cd crates/port_engines && rt run < stdin | cmp - stdout
 
 speed: $(LIBRARY) $(ENGINES)
 	CC="$(CC)" LDLIBS="$(LDLIBS)" tests/speed/speed.sh $(LIBRARY) $(TARGET)/speed

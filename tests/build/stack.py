@@ -5,8 +5,9 @@ stack.py LIBRARY FOLDER CC
 
 A function needs what it pushes and reserves, what it uses below the stack
 pointer, and the most that a function it calls needs behind the return
-address.  There is no recursion and no call through a pointer; what would make
-the sum wrong is a fault.  memcpy and memset are the C library's: only their
+address.  One that it ends in by a jump has its place: that needs its own alone.
+There is no recursion and no call through a pointer; what would make the sum
+wrong is a fault.  memcpy, memmove and memset are the C library's: only their
 return address is counted.
 
 The header says how much is needed at most ("Interrupt handlers"); more is a
@@ -23,7 +24,7 @@ import sys
 ROOT = os.path.join(os.path.dirname(os.path.abspath(__file__)), "..", "..")
 HEADER = os.path.join(ROOT, "include", "grimholdi.h")
 SEEN = os.path.join(ROOT, "tests", "build", "stack.c")
-OUTSIDE = {"memcpy", "memset"}
+OUTSIDE = {"memcpy", "memmove", "memset"}
 
 # What stack.c's own function takes below the painted stack's top beside the
 # call, more than around grimholdi_version: its arguments on the stack.
@@ -40,10 +41,13 @@ class Function:
         self.own = 0        # bytes pushed and reserved
         self.below = 0      # bytes used below the stack pointer
         self.calls = []
+        self.jumps = []     # functions that it ends in
+        self.last = ""      # the instruction before
         self.shape = ""
         self.faults = []
 
     def instruction(self, text, name, operands):
+        self.last = name
         if name.startswith("push"):
             self.own += 8
             self.shape += "p"
@@ -80,7 +84,8 @@ def functions_of(library):
             function = functions[member, started.group(1)] = Function()
         elif moved:
             called = re.sub(r"^\.text\.", "", moved.group(1))
-            function.calls.append(called)
+            (function.jumps if function.last.startswith("j")
+             else function.calls).append(called)
         elif text and not text.group(1).startswith("R_X86_64"):
             function.instruction(line.strip(), *text.groups())
     return functions
@@ -95,10 +100,13 @@ def needed(functions, member, name, above=()):
     if function.faults or not SHAPE.match(function.shape):
         sys.exit("stack: FAILED, %s: %s: %s" % (
             member, name, (function.faults + [function.shape])[0]))
-    deepest = max((8 + (0 if called in OUTSIDE else
-                        needed(functions, member, called, above + (name,)))
-                   for called in function.calls), default=0)
-    return function.own + max(function.below, deepest)
+    def of(called):
+        return 0 if called in OUTSIDE else needed(functions, member, called,
+                                                  above + (name,))
+
+    deepest = max((8 + of(called) for called in function.calls), default=0)
+    return max([function.own + max(function.below, deepest)]
+               + [of(called) for called in function.jumps])
 
 
 def seen_by(library, folder, compiler):
