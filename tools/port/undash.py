@@ -13,7 +13,9 @@ import os
 import re
 import sys
 
-NAME = re.compile(r"[^\W\d][\w'-]*")
+sys.dont_write_bytecode = True
+from respell import NAME, files, read
+
 DEFINED = re.compile(r"^( *)((?:abbrev |unfoldable )*)(?:pub )?([a-z][\w'-]*) :(?= |$)", re.M)
 IMPORTED = re.compile(r"^use ([\w.·+-]+)\.\{([^}]*)\}", re.M)
 FUNCTION = re.compile(r"^\s*(?:pub )?(?:extern \"C\" )?fn (\w+)", re.M)
@@ -29,19 +31,6 @@ APART = {".antt": re.compile(r"--.*"), ".rt": re.compile(r"//.*|b?\"(?:[^\"\\]|\
 
 PAGES = ["docs/ARCHITECTURE.md", "docs/CHANGING.md", "docs/DECISIONS.md", "docs/PROMISES.md", "docs/READING.md", "docs/SPEED.md", "README.md",
          "tests/constants_table.py", "tests/pins_planted.py", "tests/pins.py"]
-
-
-def files():
-    for folder, dirs, names in os.walk("crates"):
-        dirs[:] = sorted(d for d in dirs if d != "out")
-        for name in sorted(names):
-            if name.endswith((".antt", ".rt")):
-                yield os.path.join(folder, name)
-
-
-def read(path):
-    with open(path, encoding="utf-8") as f:
-        return f.read()
 
 
 def renamed(names, definitions, taken, functions):
