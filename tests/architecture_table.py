@@ -41,7 +41,7 @@ COLUMNS = 5
 # From the bottom, which is the order of the table in docs/ARCHITECTURE.md.
 LAYERS = (
     Layer(("Foundations",), (
-        Part("bools", 1, (3, 3), ("tests as values",)),
+        Part("bools", 1, (3, 3), ("tests as numbers",)),
         Part("payload", 1, (4, 4), ("at most 64 bytes,", "zeros behind them")),
     )),
     Layer(("Ports,", "buffers,", "translator"), (

@@ -102,12 +102,16 @@ def table_plants(texts):
 
 
 def case_plants(texts, cases):
-    name, said = list(cases_in(texts, cases).items())[-1]
-    line = texts[cases.place.file()].rindex("\n", 0, said.start)
-    spare = " ".join([cases.place.definition, *cases.before.split(), "Spare",
-                      "=", said.text])
-    yield said.end, said.end, "\n" + spare, "the case Spare"
-    yield line, said.end, "", "no case " + name
+    found = cases_in(texts, cases)
+    name, said = list(found.items())[-1]
+    for spare in ["Spare"] + ["Err Spare", "Ok Spare"] * ("Ok" in found):
+        pattern = "(%s)" % spare if " " in spare else spare
+        clause = " ".join([cases.place.definition, *cases.before.split(),
+                           pattern, "=", said.text])
+        yield said.end, said.end, "\n" + clause, "the case " + spare
+    for name, said in found.items():
+        line = texts[cases.place.file()].rindex("\n", 0, said.start)
+        yield line, said.end, "", "no case " + name
 
 
 def bit_plants(texts, bits):

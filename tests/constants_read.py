@@ -150,8 +150,8 @@ def numbers_in(match, start):
             for i in range(1, match.re.groups + 1)]
 
 
-def shape_in(texts, shape):
-    """The numbers of the shape, as Found."""
+def match_in(texts, shape):
+    """The match of the shape, and where the text that it is in begins."""
     text, start, end = definition_of(texts, shape.place)
     found = list(expression(shape.text).finditer(text[start:end].rstrip()))
     if shape.text.startswith("="):
@@ -160,24 +160,32 @@ def shape_in(texts, shape):
     if len(found) != 1:
         raise Fault("%s has '%s' %d times" % (shape.place, shape.text,
                                               len(found)))
-    return numbers_in(found[0], start)
+    return found[0], start
+
+
+def case_in(pattern):
+    """The name of the case: its variant, after Err or Ok that it is in."""
+    names = [word.rpartition(".")[2]
+             for word in re.findall(r"\w+(?:\.\w+)*", pattern)]
+    inside = names[0] in ("Err", "Ok") and names[1:] and names[1][0].isupper()
+    return " ".join(names[:2 if inside else 1])
 
 
 def cases_in(texts, cases):
     """What the definition says in each case, as Found."""
     text, start, end = definition_of(texts, cases.place)
     words = [cases.place.definition] + cases.before.split()
-    clause = re.compile(r"^%s +\(?(?:\w+\.)?(\w+)[^=\n]*=\s*"
+    clause = re.compile(r"^%s +(\(?\w[^=\n]*)=\s*"
                         % " +".join(map(re.escape, words)), re.M)
     heads = list(clause.finditer(text, start, end))
     ends = [head.start() for head in heads[1:]] + [end]
     found = {}
     for head, limit in zip(heads, ends):
-        if head.group(1) in found:
-            raise Fault("%s has the case %s twice" % (cases.place,
-                                                      head.group(1)))
+        name = case_in(head.group(1))
+        if name in found:
+            raise Fault("%s has the case %s twice" % (cases.place, name))
         said = text[head.end():limit].rstrip()
-        found[head.group(1)] = Found(said, head.end(), head.end() + len(said))
+        found[name] = Found(said, head.end(), head.end() + len(said))
     return found
 
 
@@ -263,8 +271,16 @@ class Project:
                                            found.start, found.end, wrong))
 
     def shape(self, shape):
-        self.numbers_are(shape.place, shape_in(self.texts, shape),
+        match, start = match_in(self.texts, shape)
+        self.numbers_are(shape.place, numbers_in(match, start),
                          shape.constants)
+        if not shape.constants:
+            self.text_is(shape.place, Found(
+                match.group(), start + match.start(), start + match.end()))
+
+    def text_is(self, place, found):
+        """A text without numbers, found as it has to be."""
+        self.compare(None, None, place, found, "99")
 
     def numbers_are(self, place, numbers, constants):
         if len(numbers) != len(constants):
@@ -287,7 +303,7 @@ class Project:
         row = cases.rows[name]
         if isinstance(row, str) and row.startswith("= "):
             row = Said(row[2:], [])
-            self.compare(None, None, cases.place, found, "99")
+            self.text_is(cases.place, found)
         elif not isinstance(row, Said):
             row = Said(cases.text, [row])
         match = expression(row.text).fullmatch(found.text)
@@ -315,7 +331,7 @@ class Project:
                      "0 ∷ " + elements[-1].text)
 
     def area(self, parts):
-        found = shape_in(self.texts, parts)
+        found = numbers_in(*match_in(self.texts, parts))
         head, port, buffer = (part.number() for part in found)
         most = self.numbers.get("PORTS_MAX"), self.numbers.get("BUFFERS_MAX")
         if None in most:

@@ -1,6 +1,6 @@
 """What constants.py compares: constants of the headers, without GRIMHOLDI_,
 and where the specs have their numbers: in files that a reader must believe
-(docs/READING.md).
+(docs/READING.md), and in one that is internal, hub/specs/Checks.
 """
 
 from typing import NamedTuple
@@ -23,6 +23,8 @@ class Place(NamedTuple):
 VERSION = Place("grimholdi", "Version", "version")
 NEW_FITS = Place("hub", "Hub", "new_fits")
 NEW_HUB = Place("hub", "Hub", "new_hub")
+HUB_REFUSALS = Place("hub", "Checks", "refusal_number")
+CHECKED = Place("hub", "Checks", "checked_as")
 COUNTS_OUTSIDE = Place("hub", "New", "CountsOutside")
 NEW_HUBS = Place("grimholdi", "New", "NewHubs")
 ENTRY_REFUSED = Place("grimholdi", "Outcome", "refused")
@@ -81,7 +83,8 @@ RIGHT = Place("recording", "Refusals", "Right")
 WRITER = Place("grimholdi_block", "Writer", "WriterExact")
 UNDER_WAY = Place("grimholdi_block", "Writer", "UnderWay")
 ANSWERS_LENGTH = Place("replay", "Answers", "answers_length")
-BLOCK_REFUSALS = Place("grimholdi_replay", "Entry", "refusal_number")
+BLOCK_REFUSALS = Place("grimholdi_replay", "Entry", "fault_number")
+BLOCK_REFUSED = Place("grimholdi_replay", "Entry", "refusal_number")
 REPLAYED = Place("grimholdi_replay", "Entry", "replayed_as")
 REPLAY = Place("grimholdi_replay", "Entry", "block_entry")
 IS_NUMBER = Place("why", "Said", "is_number")
@@ -126,8 +129,8 @@ def high_byte(constant):
 
 class Shape(NamedTuple):
     """A text that the definition has once.  `constants` has for each # a
-    constant, a To, or a number that has no constant.  A text that begins with
-    = is all that the definition says."""
+    constant, a To, or a number that has no constant; it is empty for a text
+    without #.  A text that begins with = is all that the definition says."""
     place: Place
     text: str
     constants: list
@@ -140,9 +143,10 @@ class Said(NamedTuple):
 
 
 class Cases(NamedTuple):
-    """A definition by cases.  A row is a Said, or a constant or number for
-    the # of `text`, or = and a text without #.  `before` are the arguments
-    before the one that tells the cases."""
+    """A definition by cases.  A case is named by its variant, and one inside
+    Err or Ok by both.  A row is a Said, or a constant or number for the # of
+    `text`, or = and a text without #.  `before` are the arguments before the
+    one that tells the cases."""
     place: Place
     rows: dict
     text: str = "#"
@@ -216,22 +220,27 @@ COMPARED = [
     Cases(CHOICES, {"NoRoom": "ANSWER_NAK", "LimitReached": "ANSWER_NAK",
                     "Held": "ANSWER_DONE", "Reused": "ANSWER_DONE",
                     "Took": "ANSWER_DONE"}),
-    Cases(STARTS, {"Outside": "ANSWER_OUTSIDE",
-                   "Chosen": "= choice_number c"}),
+    Cases(STARTS, {"Err": "ANSWER_OUTSIDE", "Ok": "= choice_number c"}),
     Shape(RESULTS, "= cond (is_data r) # #",
           ["ANSWER_DATA", "ANSWER_HANDSHAKE"]),
-    Cases(COMPLETES, {"NoMatch": "ANSWER_STALL", "NotYet": "ANSWER_NYET",
-                      "Gives": "= result_number r"}),
-    Cases(LAUNCHES, {"NothingPending": "ANSWER_NAK",
-                     "Occupied": "ANSWER_NOT_NOW", "Launches": "ANSWER_DATA"}),
-    Cases(DELIVERS, {"Outside": "ANSWER_OUTSIDE",
-                     "NotInThisState": "ANSWER_NOT_NOW",
-                     "Done": "ANSWER_DONE"}),
+    Cases(COMPLETES, {"Err NoMatch": "ANSWER_STALL",
+                      "Err NotYet": "ANSWER_NYET",
+                      "Ok": "= result_number r"}),
+    Cases(LAUNCHES, {"Err NothingPending": "ANSWER_NAK",
+                     "Err Occupied": "ANSWER_NOT_NOW", "Ok": "ANSWER_DATA"}),
+    Cases(DELIVERS, {"Err Outside": "ANSWER_OUTSIDE",
+                     "Err NotInThisState": "ANSWER_NOT_NOW",
+                     "Ok": "ANSWER_DONE"}),
     Shape(STEP_DONE, "= record { port = p; number = # }", ["ANSWER_DONE"]),
     Shape(STEP_REFUSED, "refused = record { port = p; number = # }",
           ["ANSWER_NOT_NOW"]),
-    Shape(NEW_HUB, "number = #; hub = hub_of n b g c r", ["ANSWER_DONE"]),
-    Shape(NEW_HUB, "number = #; hub = hub_of 0 0 0 0 0", ["ANSWER_OUTSIDE"]),
+    Cases(HUB_REFUSALS, {"Outside": "ANSWER_OUTSIDE",
+                         "NoSpace": "ANSWER_NO_SPACE",
+                         "Unconfigured": "ANSWER_SILENT",
+                         "NotInThisState": "ANSWER_NOT_NOW"}),
+    Cases(CHECKED, {"Ok": "ANSWER_DONE", "Err": "= refusal_number r"}),
+    Shape(NEW_HUB, "= cond (new_fits n b g c r) (Ok (hub_of n b g c r)) "
+          "(Err Outside)", []),
     Shape(NEW_HUBS, "((f a n b g c r).answer.number ≡ #)",
           ["ANSWER_OUTSIDE"]),
     Shape(NEW_HUBS, "answer = ? #;", ["ANSWER_DONE"]),
@@ -259,7 +268,6 @@ COMPARED = [
 
     # Requests.
     Cases(ASKS_FOR, {
-        "Wrong": "= Unit {0}",
         "SetConfiguration": Said("s ≡ fields # # (cond one 1 0) 0 0",
                                  ["TYPE_SET_CONFIGURATION",
                                   "REQUEST_SET_CONFIGURATION"]),
@@ -354,14 +362,13 @@ COMPARED = [
     Shape(REPLAYED, "number = #;", ["ANSWER_DONE"]),
     Shape(REPLAY, "(? # a o)) (? # a o)",
           ["ANSWER_NO_SPACE", "ANSWER_OUTSIDE"]),
-    Cases(BLOCK_REFUSALS, {"Good": "REFUSED_NOT",
-                           "BadLength": "REFUSED_LENGTH",
+    Cases(BLOCK_REFUSED, {"Ok": "REFUSED_NOT", "Err": "= fault_number f"}),
+    Cases(BLOCK_REFUSALS, {"BadLength": "REFUSED_LENGTH",
                            "BadCheck": "REFUSED_CHECK",
                            "BadNumber": "REFUSED_NUMBER",
                            "BadCount": "REFUSED_COUNT",
                            "BadRecord": "REFUSED_RECORD"}),
-    # Tag 0 is no call.
-    Cases(LAYOUTS, {"Unknown": 0, "Control": "RECORD_CONTROL",
+    Cases(LAYOUTS, {"Control": "RECORD_CONTROL",
                     "Poll": "RECORD_POLL",
                     "StartSplit": "RECORD_START_SPLIT",
                     "CompleteSplit": "RECORD_COMPLETE_SPLIT",

@@ -1,6 +1,6 @@
 -- What reading and writing a whole area come to, over plain values. Assumes nothing.
 use mathlib.Core.Path.{◌≡◌, sym, ap, ◌∙◌}
-use mathlib.Core.List.{List, [], ◌++◌, append_assoc, append-nil}
+use mathlib.Core.List.{List, [], ◌++◌, map, append_assoc, append-nil}
 use mathlib.Core.Bool.{Bool, true, false, cond}
 use Prim.Native.Nat.{ℕ, ◌+◌, ◌-◌, ◌*◌, ◌≤◌, min}
 use native.Mathlib.Nat.{add-sub_cancel_left}
@@ -11,22 +11,32 @@ use lib.Seq.{drop-length, drop-drop, take_all}
 use lib.Dec.{eqb}
 use borrow.Author.Tests.{eq-eqb, ne_eqb}
 use borrow.Rule.Slice.PartMut.{put_mid}
+use Rattle.std.specs.Prelude.{Some, None}
+use Rattle.std.specs.Simd.{first_chunks}
 use Rattle.port.specs.declared.Port.{Port}
 use Rattle.buffer.specs.declared.Buffer.{Buffer}
 use Rattle.translator.specs.declared.LowSide.{LowSide}
 use Rattle.hub.specs.declared.Hub.{Hub}
-use Rattle.area.specs.declared.Read.{Read}
 use Rattle.payload.specs.Bytes.{flat}
 use Rattle.area.specs.Written.{port_bytes, buffer_bytes, head_bytes, written, written_over}
-use Rattle.area_check.specs.Read.{low_of, ports_of, buffers_of, port_part, buffer_part, decoded, accepts}
-use Rattle.area.specs.Read.{refusal, read_of}
-use Rattle.area_check.proofs.Rows.{put_next}
+use Rattle.area_check.specs.Read.{low_of, port_of, buffer_of, no_ports, no_buffers, ports_of, buffers_of, port_part, buffer_part, decoded, accepts}
+use Rattle.area.specs.Read.{read_of}
+use Rattle.area_check.proofs.Rows.{put_next, chunks_long, parts_rows}
 
 -- ---- the paths through `read_area` and what it calls
 
+pub port_row : (n : ℕ) (l : List ℕ) → map port_of (first_chunks 4 n l) ++ drop (length (first_chunks 4 n l)) no_ports ≡ ports_of n l
+unfolding ports_of
+port_row n l = ap (λ (k : ℕ). map port_of (first_chunks 4 n l) ++ drop k no_ports) (chunks_long 4 n l) ∙ ap (λ (r : List Port). r ++ drop n no_ports) (parts_rows port_of 4 n l)
+
+pub buffer_row : (n : ℕ) (l : List ℕ) → map buffer_of (first_chunks 72 n l) ++ drop (length (first_chunks 72 n l)) no_buffers ≡ buffers_of n l
+unfolding buffers_of
+buffer_row n l =
+    ap (λ (k : ℕ). map buffer_of (first_chunks 72 n l) ++ drop k no_buffers) (chunks_long 72 n l) ∙ ap (λ (r : List Buffer). r ++ drop n no_buffers) (parts_rows buffer_of 72 n l)
+
 pub decode_end : (a : List ℕ) (ps : List Port) (bs : List Buffer) (l : LowSide) → l ≡ low_of (get_or a 6 0) (get_or a 7 0)
-    → ps ≡ ports_of (get_or a 0 0) (take (8 + get_or a 0 0 * 4 - 8) (drop 8 a))
-    → bs ≡ buffers_of (get_or a 1 0) (take (8 + get_or a 0 0 * 4 + get_or a 1 0 * 72 - (8 + get_or a 0 0 * 4)) (drop (8 + get_or a 0 0 * 4) a))
+    → ps ≡ ports_of (get_or a 0 0) (port_part a)
+    → bs ≡ buffers_of (get_or a 1 0) (buffer_part a)
     → ◌≡◌ {A = Hub}
     (record {
       identity = record { ports = get_or a 0 0; powergood = get_or a 2 0; current = get_or a 3 0; removable = get_or a 4 0 };
@@ -36,23 +46,16 @@ pub decode_end : (a : List ℕ) (ps : List Port) (bs : List Buffer) (l : LowSide
     })
     (decoded a)
 unfolding decoded
-decode_end a ps bs l d p q =
-    let x : ps ≡ ports_of (get_or a 0 0) (port_part a) =
-    p ∙ ap (λ (k : ℕ). ports_of (get_or a 0 0) (take k (drop 8 a))) (add-sub_cancel_left 8 (get_or a 0 0 * 4)) in
-    let y : bs ≡ buffers_of (get_or a 1 0) (buffer_part a) =
-    q ∙ ap (λ (k : ℕ). buffers_of (get_or a 1 0) (take k (drop (8 + get_or a 0 0 * 4) a))) (add-sub_cancel_left (8 + get_or a 0 0 * 4) (get_or a 1 0 * 72)) in
-    rw (x, y, d)
+decode_end a ps bs l d p q = rw (p, q, d)
 
 module _ (a : List ℕ) (z : Bool) (ez : z ≡ accepts a) where
-  pub read_not : (r : Read) → r ≡ refusal → z ≡ false → r ≡ read_of a
+  pub read_not : z ≡ false → None ≡ read_of a
   unfolding read_of
-  read_not r e f = e ∙ sym (ap (λ (b : Bool). cond b (record { ok = true; hub = decoded a }) refusal) (sym ez ∙ f))
+  read_not f = sym (ap (λ (b : Bool). cond b (Some (decoded a)) None) (sym ez ∙ f))
 
-  pub read_taken : (h : Hub) → h ≡ decoded a → z ≡ true → ◌≡◌ {A = Read} (record { ok = true; hub = h }) (read_of a)
+  pub read_taken : (h : Hub) → h ≡ decoded a → z ≡ true → Some h ≡ read_of a
   unfolding read_of
-  read_taken h e t =
-      ap (λ (x : Hub). record { ok = true; hub = x }) e
-      ∙ sym (ap (λ (b : Bool). cond b (record { ok = true; hub = decoded a }) refusal) (sym ez ∙ t))
+  read_taken h e t = ap Some e ∙ sym (ap (λ (b : Bool). cond b (Some (decoded a)) None) (sym ez ∙ t))
 
 -- ---- the paths through `write_area`
 

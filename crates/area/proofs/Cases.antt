@@ -1,6 +1,6 @@
 -- The valid hubs and those that aren't, by computation. Assumes nothing.
-use mathlib.Core.Path.{◌≡◌, refl, sym, ap, ◌∙◌}
-use mathlib.Core.Bool.{true, false, true≢false}
+use mathlib.Core.Path.{◌≡◌, refl}
+use Rattle.std.specs.Prelude.{Some, None}
 use Rattle.payload.specs.Payload.{padded, payload_of}
 use Rattle.buffer.specs.Same.{same_key}
 use Rattle.buffer.specs.Lengths.{numbers_fit, start_fits, result_length}
@@ -10,20 +10,19 @@ use Rattle.hub.specs.Valid.{ValidHub}
 use Rattle.payload.specs.Bytes.{flat}
 use Rattle.area_check.specs.Rows.{parts, every, blank}
 use Rattle.area_check.specs.Read.{marked_port, port_of, held_split, slot_of, buffer_of, no_ports, no_buffers, ports_of, buffers_of, decoded, port_fits, names_fit, buffer_fits, clashing, filled_by, runs, head_fits, sized, rows_fit, accepts}
-use Rattle.area.specs.declared.Read.{Read}
 use Rattle.area.specs.Written.{port_bytes, buffer_bytes, head_bytes, written}
-use Rattle.area.specs.Read.{refusal, read_of}
+use Rattle.area.specs.Read.{read_of}
 use Rattle.area.specs.Cases.{NumbersAsked, PayloadsAsked, TimersAsked, BuffersAsked, ConfigurationAsked, OthersTaken, NewNumbers, ValidCases}
 use Rattle.area.proofs.Exact.{area_exact_lem}
 
-valid : (h : Hub) → read_of (written h) ≡ record { ok = true; hub = h } → ValidHub h
+valid : (h : Hub) → read_of (written h) ≡ Some h → ValidHub h
 valid h e = ((area_exact_lem.taken (written h) h).0 e).0
 
-invalid : (h : Hub) → (read_of (written h)).ok ≡ false → ¬ (ValidHub h)
-invalid h e v = true≢false (sym (ap (λ (r : Read). r.ok) (area_exact_lem.again h v)) ∙ e)
+invalid : (h : Hub) → read_of (written h) ≡ None → ¬ (ValidHub h)
+invalid h e v = let t = area_exact_lem.again h v in cc
 
 numbers : NumbersAsked
-unfolding padded payload_of same_key numbers_fit start_fits result_length new_fits flat parts every blank marked_port port_of held_split slot_of buffer_of no_ports no_buffers ports_of buffers_of decoded port_fits names_fit buffer_fits clashing filled_by runs head_fits sized rows_fit accepts port_bytes buffer_bytes head_bytes written refusal read_of
+unfolding padded payload_of same_key numbers_fit start_fits result_length new_fits flat parts every blank marked_port port_of held_split slot_of buffer_of no_ports no_buffers ports_of buffers_of decoded port_fits names_fit buffer_fits clashing filled_by runs head_fits sized rows_fit accepts port_bytes buffer_bytes head_bytes written read_of
 numbers =
     record {
       kept = valid _ refl;
@@ -41,7 +40,7 @@ numbers =
     }
 
 payloads : PayloadsAsked
-unfolding padded payload_of same_key numbers_fit start_fits result_length new_fits flat parts every blank marked_port port_of held_split slot_of buffer_of no_ports no_buffers ports_of buffers_of decoded port_fits names_fit buffer_fits clashing filled_by runs head_fits sized rows_fit accepts port_bytes buffer_bytes head_bytes written refusal read_of
+unfolding padded payload_of same_key numbers_fit start_fits result_length new_fits flat parts every blank marked_port port_of held_split slot_of buffer_of no_ports no_buffers ports_of buffers_of decoded port_fits names_fit buffer_fits clashing filled_by runs head_fits sized rows_fit accepts port_bytes buffer_bytes head_bytes written read_of
 payloads =
     record {
       setup = valid _ refl;
@@ -59,7 +58,7 @@ payloads =
     }
 
 timers : TimersAsked
-unfolding padded payload_of same_key numbers_fit start_fits result_length new_fits flat parts every blank marked_port port_of held_split slot_of buffer_of no_ports no_buffers ports_of buffers_of decoded port_fits names_fit buffer_fits clashing filled_by runs head_fits sized rows_fit accepts port_bytes buffer_bytes head_bytes written refusal read_of
+unfolding padded payload_of same_key numbers_fit start_fits result_length new_fits flat parts every blank marked_port port_of held_split slot_of buffer_of no_ports no_buffers ports_of buffers_of decoded port_fits names_fit buffer_fits clashing filled_by runs head_fits sized rows_fit accepts port_bytes buffer_bytes head_bytes written read_of
 timers =
     record {
       resetting_14 = valid _ refl;
@@ -69,7 +68,7 @@ timers =
     }
 
 buffers : BuffersAsked
-unfolding padded payload_of same_key numbers_fit start_fits result_length new_fits flat parts every blank marked_port port_of held_split slot_of buffer_of no_ports no_buffers ports_of buffers_of decoded port_fits names_fit buffer_fits clashing filled_by runs head_fits sized rows_fit accepts port_bytes buffer_bytes head_bytes written refusal read_of
+unfolding padded payload_of same_key numbers_fit start_fits result_length new_fits flat parts every blank marked_port port_of held_split slot_of buffer_of no_ports no_buffers ports_of buffers_of decoded port_fits names_fit buffer_fits clashing filled_by runs head_fits sized rows_fit accepts port_bytes buffer_bytes head_bytes written read_of
 buffers =
     record {
       other_key = valid _ refl;
@@ -89,7 +88,7 @@ buffers =
     }
 
 configuration : ConfigurationAsked
-unfolding padded payload_of same_key numbers_fit start_fits result_length new_fits flat parts every blank marked_port port_of held_split slot_of buffer_of no_ports no_buffers ports_of buffers_of decoded port_fits names_fit buffer_fits clashing filled_by runs head_fits sized rows_fit accepts port_bytes buffer_bytes head_bytes written refusal read_of
+unfolding padded payload_of same_key numbers_fit start_fits result_length new_fits flat parts every blank marked_port port_of held_split slot_of buffer_of no_ports no_buffers ports_of buffers_of decoded port_fits names_fit buffer_fits clashing filled_by runs head_fits sized rows_fit accepts port_bytes buffer_bytes head_bytes written read_of
 configuration =
     record {
       none_not_configured = valid _ refl;
@@ -99,7 +98,7 @@ configuration =
     }
 
 others : OthersTaken
-unfolding padded payload_of same_key numbers_fit start_fits result_length new_fits flat parts every blank marked_port port_of held_split slot_of buffer_of no_ports no_buffers ports_of buffers_of decoded port_fits names_fit buffer_fits clashing filled_by runs head_fits sized rows_fit accepts port_bytes buffer_bytes head_bytes written refusal read_of
+unfolding padded payload_of same_key numbers_fit start_fits result_length new_fits flat parts every blank marked_port port_of held_split slot_of buffer_of no_ports no_buffers ports_of buffers_of decoded port_fits names_fit buffer_fits clashing filled_by runs head_fits sized rows_fit accepts port_bytes buffer_bytes head_bytes written read_of
 others =
     record {
       in_ack = valid _ refl;

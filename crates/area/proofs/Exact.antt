@@ -1,13 +1,14 @@
 -- An area is taken, and gives a hub, exactly if the hub is valid and the area is its written form. Assumes nothing.
 use mathlib.Core.Path.{◌≡◌, refl, sym, ap, subst, ◌∙◌}
 use mathlib.Core.List.{List, [], ◌∷◌, ◌++◌}
-use mathlib.Core.Bool.{Bool, true, false, false≢true, cond, not, ◌&&◌, and-eq-true_iff}
+use mathlib.Core.Bool.{Bool, true, false, cond, not, ◌&&◌, and-eq-true_iff}
 use Prim.Native.Nat.{ℕ, zero, suc, ◌+◌, ◌*◌, ◌≤◌, ◌<◌, min}
 use native.Mathlib.Omega.{arith}
 use lib.ListN.{length, get_or, take, drop, length-append, length-drop, take-append-drop}
 use lib.Seq.{take_at, drop_at, take-length, take_all, length-take-le, drop-drop}
 use lib.Dec.{eqb, ltb}
 use borrow.Author.Tests.{eq-eqb, ne_eqb, not-true, le-leb}
+use Rattle.std.specs.Prelude.{Option, Some, None}
 use Rattle.payload.specs.Payload.{padded}
 use Rattle.port.specs.declared.Port.{Port}
 use Rattle.bools.specs.Bit.{bit}
@@ -24,12 +25,11 @@ use Rattle.translator.specs.Valid.{ValidTranslator}
 use Rattle.hub.specs.declared.Identity.{Identity}
 use Rattle.hub.specs.declared.Hub.{Hub}
 use Rattle.hub.specs.Valid.{ValidHub}
-use Rattle.area.specs.declared.Read.{Read}
 use Rattle.payload.specs.Bytes.{flat}
 use Rattle.area_check.specs.Rows.{parts, every}
 use Rattle.area.specs.Written.{port_bytes, buffer_bytes, head_bytes, written, area_length, written_over}
 use Rattle.area_check.specs.Read.{port_of, buffer_of, low_of, no_ports, no_buffers, ports_of, buffers_of, port_part, buffer_part, decoded, port_fits, buffer_fits, clashing, crowded, runs, head_fits, sized, rows_fit, accepts}
-use Rattle.area.specs.Read.{refusal, read_of}
+use Rattle.area.specs.Read.{read_of}
 use Rattle.area.specs.Claims.{AreaExact}
 use Rattle.area_check.proofs.Rows.{All, all_map, all_take, row_each, row_used, row_spare, row_long, row_tail, parts_length, Kept, flat_length, parts_flat, every_to, every_of}
 use Rattle.area_check.proofs.Sized.{Counts, counts, headed, Sized, sized_to}
@@ -371,34 +371,34 @@ from_decoded a h d t =
     let r = rows_to a x.1 in
     (subst ValidHub d (decoded_valid a z r), decoded_written a z r ∙ ap written d)
 
-took_to : (a : List ℕ) (h : Hub) → read_of a ≡ record { ok = true; hub = h } → ValidHub h × (a ≡ written h)
-unfolding read_of refusal
+took_to : (a : List ℕ) (h : Hub) → read_of a ≡ Some h → ValidHub h × (a ≡ written h)
+unfolding read_of
 took_to a h e = go (accepts a) refl e
   where
-    go : (b : Bool) → accepts a ≡ b → ◌≡◌ {A = Read} (cond b (record { ok = true; hub = decoded a }) refusal) (record { ok = true; hub = h }) → ValidHub h × (a ≡ written h)
-    go true t q = from_decoded a h (ap (λ (r : Read). r.hub) q) t
-    go false t q = absurd (false≢true (ap (λ (r : Read). r.ok) q))
+    go : (b : Bool) → accepts a ≡ b → ◌≡◌ {A = Option Hub} (cond b (Some (decoded a)) None) (Some h) → ValidHub h × (a ≡ written h)
+    go true t q = from_decoded a h (cc) t
+    go false t q = absurd cc
 
-again : (h : Hub) → ValidHub h → read_of (written h) ≡ record { ok = true; hub = h }
+again : (h : Hub) → ValidHub h → read_of (written h) ≡ Some h
 unfolding read_of
-again h v = rw (accepts_of h v) (ap (λ (x : Hub). record { ok = true; hub = x }) (decoded_again h v))
+again h v = rw (accepts_of h v) (ap Some (decoded_again h v))
 
-took_of : (a : List ℕ) (h : Hub) → ValidHub h → a ≡ written h → read_of a ≡ record { ok = true; hub = h }
+took_of : (a : List ℕ) (h : Hub) → ValidHub h → a ≡ written h → read_of a ≡ Some h
 took_of a h v e = ap read_of e ∙ again h v
 
-refused_to : (a : List ℕ) → (read_of a).ok ≡ false → (h : Hub) → ValidHub h → ¬ (a ≡ written h)
-refused_to a e h v w = false≢true (sym e ∙ ap (λ (r : Read). r.ok) (took_of a h v w))
+refused_to : (a : List ℕ) → read_of a ≡ None → (h : Hub) → ValidHub h → ¬ (a ≡ written h)
+refused_to a e h v w = let t = took_of a h v w in cc
 
-refused_of : (a : List ℕ) → ((h : Hub) → ValidHub h → ¬ (a ≡ written h)) → (read_of a).ok ≡ false
-unfolding read_of refusal
+refused_of : (a : List ℕ) → ((h : Hub) → ValidHub h → ¬ (a ≡ written h)) → read_of a ≡ None
+unfolding read_of
 refused_of a n = go (accepts a) refl
   where
-    go : (b : Bool) → accepts a ≡ b → (cond b (record { ok = true; hub = decoded a }) refusal).ok ≡ false
+    go : (b : Bool) → accepts a ≡ b → ◌≡◌ {A = Option Hub} (cond b (Some (decoded a)) None) None
     go true t = let x = from_decoded a (decoded a) refl t in absurd (n (decoded a) x.0 x.1)
     go false t = refl
 
 one_form : (h g : Hub) → ValidHub h → ValidHub g → written h ≡ written g → h ≡ g
-one_form h g v w e = ap (λ (r : Read). r.hub) (sym (again h v) ∙ ap read_of e ∙ again g w)
+one_form h g v w e = let same : Some h ≡ Some g = sym (again h v) ∙ ap read_of e ∙ again g w in cc
 
 area_is : (n b : ℕ) → Counts n b → area_length n b ≡ 8 + n * 4 + b * 72
 unfolding area_length

@@ -27,14 +27,8 @@ over_put n k m o p q h e =
 pub over_none : {A : Type 0} (n : ℕ) (o : List ℕ) (x y : A) → length o < n → y ≡ cond (leb n (length o)) x y
 over_none n o x y h = sym (ap (λ (b : Bool). cond b x y) (lt-leb n (length o) h))
 
-pub over_not : (n : ℕ) (o x : List ℕ) → length o < n → o ≡ cond (leb n (length o)) x o
-over_not n o x h = over_none n o x o h
-
 pub over_some : {A : Type 0} (n : ℕ) (o : List ℕ) (x y : A) → n ≤ length o → x ≡ cond (leb n (length o)) x y
 over_some n o x y h = sym (ap (λ (b : Bool). cond b x y) (le-leb n (length o) h))
-
-pub cut_size : {A : Type 0} (f : List ℕ → A) (n k : ℕ) (o : List ℕ) → f (take (n + k - n) (drop n o)) ≡ f (take k (drop n o))
-cut_size f n k o = ap (λ (m : ℕ). f (take m (drop n o))) (add-sub_cancel_left n k)
 
 -- one element of a row got, behind the bytes before the row
 pub row_got : {A : Type 0} (enc : A → List ℕ) (k m : ℕ) (hd r : List ℕ) (xs : List A) (i : ℕ) (d : A) → length hd ≡ m → i < length xs

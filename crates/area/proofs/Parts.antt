@@ -3,8 +3,7 @@ use mathlib.Core.Path.{◌≡◌, refl, ap, ◌∙◌}
 use mathlib.Core.List.{List, ◌++◌, append-nil}
 use Prim.Native.Nat.{ℕ, ◌+◌, ◌-◌, ◌≤◌, ◌<◌}
 use native.Mathlib.Omega.{arith}
-use lib.Seq.{drop_at, length-take-le}
-use lib.ListN.{length, take, drop, length-drop, drop_of_length-le}
+use lib.ListN.{length, take, drop, length-append, length-drop, drop_of_length-le}
 use borrow.Rule.Slice.PartMut.{put_mid}
 use Rattle.buffer.specs.declared.Slot.{Slot}
 use Rattle.buffer.specs.declared.Slot.TheVariants.{Empty}
@@ -14,24 +13,21 @@ use Rattle.area_check.specs.Read.{slot_of, buffer_of}
 use Rattle.area.specs.Written.{slot_bytes, buffer_bytes, buffer_put}
 use Rattle.area.specs.Read.{buffer_from}
 use Rattle.area_check.proofs.Rows.{put_next}
-use Rattle.area.proofs.Over.{over_none, over_some, over_put, cut_size}
+use Rattle.area.proofs.Over.{over_none, over_some, over_put}
 
 -- a buffer's two parts are its written form
 pub put_both : (b : Buffer) (o f p : List ℕ) → length o ≡ 72 → length f ≡ 8 → f ≡ slot_bytes b.slot b.payload.len → p ≡ b.payload.bytes
-    → put_mid 8 64 (put_mid 0 8 o f) p ≡ buffer_bytes b
+    → put_mid 8 (length (f ++ drop 8 o) - 8) (f ++ drop 8 o) p ≡ buffer_bytes b
 unfolding buffer_bytes
 put_both b o f p n nf ef ep =
     let h : length (drop 8 o) ≤ 64 = simp length-drop (omega arith) in
-    put_next 8 64 f (drop 8 o) p nf
+    let k : length (f ++ drop 8 o) - 8 ≡ 64 = simp (length-append, length-drop) (omega arith) in
+    ap (λ (i : ℕ). put_mid 8 i (f ++ drop 8 o) p) k
+    ∙ put_next 8 64 f (drop 8 o) p nf
     ∙ ap (λ (r : List ℕ). (f ++ p) ++ r) (drop_of_length-le (drop 8 o) h)
     ∙ append-nil (f ++ p)
     ∙ ap (λ (r : List ℕ). r ++ p) ef
     ∙ ap (λ (r : List ℕ). slot_bytes b.slot b.payload.len ++ r) ep
-
-pub second_part : (o f : List ℕ) → length o ≡ 72 → length f ≡ 8 → length (take 64 (drop 8 (put_mid 0 8 o f))) ≡ 64
-second_part o f n nf =
-    let e : drop 8 (put_mid 0 8 o f) ≡ drop 8 o = drop_at f (drop 8 o) 8 nf in
-    ap (λ (r : List ℕ). length (take 64 r)) e ∙ length-take-le 64 (drop 8 o) (simp length-drop (omega arith))
 
 -- ---- one buffer in an area
 
@@ -49,11 +45,11 @@ module _ (n : ℕ) (a : List ℕ) where
     put_none b = over_none (n + 72) a _ _ h
 
   module _ (h : n + 72 ≤ length a) where
-    pub buffer_some : {b : Buffer} → b ≡ buffer_of (take (n + 72 - n) (drop n a)) → b ≡ buffer_from n a
+    pub buffer_some : {b : Buffer} → b ≡ buffer_of (take 72 (drop n a)) → b ≡ buffer_from n a
     unfolding buffer_from
-    buffer_some e = e ∙ cut_size buffer_of n 72 a ∙ over_some (n + 72) a _ _ h
+    buffer_some e = e ∙ over_some (n + 72) a _ _ h
 
-    pub slot_some : {s : Slot} → s ≡ slot_of (take (n + 72 - n) (drop n a)) → s ≡ (buffer_from n a).slot
+    pub slot_some : {s : Slot} → s ≡ slot_of (take 72 (drop n a)) → s ≡ (buffer_from n a).slot
     unfolding buffer_of
     slot_some e = e ∙ ap (λ (b : Buffer). b.slot) (buffer_some refl)
 

@@ -1,6 +1,6 @@
 -- Acceptance is exact. A reader must believe: `written` is the layout, `ValidHub` is document 01's list, and `read_area` and `write_area`
 -- are `read_of` and `written_over`, as their contracts say.
-use Rattle.std.specs.Prelude.{ℕ, ◌≡◌, true, false, List, ◌↔◌, length}
+use Rattle.std.specs.Prelude.{ℕ, ◌≡◌, List, Some, None, ◌↔◌, length}
 use Rattle.hub.specs.declared.Hub.{Hub}
 use Rattle.hub.specs.Valid.{ValidHub}
 use Rattle.area.specs.Written.{written, area_length, written_over}
@@ -8,11 +8,11 @@ use Rattle.area.specs.Read.{read_of}
 
 pub record AreaExact : Type 0 where
   -- an area is taken, and gives a hub, exactly if the hub is valid and the area is its written form
-  pub taken : (a : List ℕ) (h : Hub) → (read_of a ≡ record { ok = true; hub = h }) ↔ (ValidHub h × (a ≡ written h))
+  pub taken : (a : List ℕ) (h : Hub) → (read_of a ≡ Some h) ↔ (ValidHub h × (a ≡ written h))
   -- an area is refused exactly if it is the written form of no valid hub
-  pub refused : (a : List ℕ) → ((read_of a).ok ≡ false) ↔ ((h : Hub) → ValidHub h → ¬ (a ≡ written h))
+  pub refused : (a : List ℕ) → (read_of a ≡ None) ↔ ((h : Hub) → ValidHub h → ¬ (a ≡ written h))
   -- what was written is read back
-  pub again : (h : Hub) → ValidHub h → read_of (written h) ≡ record { ok = true; hub = h }
+  pub again : (h : Hub) → ValidHub h → read_of (written h) ≡ Some h
   -- each state has one written form of its own
   pub one_form : (h g : Hub) → ValidHub h → ValidHub g → written h ≡ written g → h ≡ g
   pub written_length : (h : Hub) → ValidHub h → length (written h) ≡ area_length h.identity.ports h.translator.count

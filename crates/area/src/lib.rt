@@ -1,47 +1,22 @@
 // The written form of a hub in a lent byte area: its length, reading and writing.
 #![tactic(auto)]
 
-ghost use Rattle.std.specs.Prelude.{◌≡◌, [], ◌∷◌, ◌+◌, ◌*◌, ◌≤◌, min, length, get_or, take};
+ghost use Rattle.std.specs.Prelude.{◌≡◌, [], ◌∷◌, ◌++◌, ◌+◌, ◌*◌, ◌<◌, ◌≤◌, length, get_or, map, take, drop, MatchOption};
 ghost use Rattle.bools.specs.Bit.{bit};
 ghost use Rattle.port.specs.Status.{byte_of};
-ghost use Rattle.numbers.specs.Named.{pid_from, type_from, result_from};
+ghost use Rattle.numbers.specs.Named.{result_from};
 ghost use Rattle.payload.specs.Bytes.{flat};
 ghost use Rattle.area.specs.Written.{marks_byte, port_bytes, held_bytes, slot_bytes, buffer_bytes, low_byte, running_byte, head_bytes, buffer_put, area_length, written_over};
-ghost use Rattle.area_check.specs.Read.{marked_port, port_of, held_split, slot_of, buffer_of, low_of, ports_of, buffers_of, decoded};
-ghost use Rattle.area.specs.Read.{buffer_from, refusal, read_of};
+ghost use Rattle.area_check.specs.Read.{marked_port, port_of, held_split, slot_of, buffer_of, low_of, no_ports, no_buffers, decoded};
+ghost use Rattle.area.specs.Read.{buffer_from, read_of};
 ghost use Rattle.area.specs.Claims.{AreaExact};
 ghost use Rattle.area.specs.Cases.{ValidCases};
 
-use buffer::{
-    Buffer, BufferCount, BufferNumber, DeviceAddress, DeviceResult, Lane, Pid, Slot, StartSplit,
-    TransferType,
-};
+use buffer::{Buffer, BufferNumber, DeviceAddress, DeviceResult, Lane, Slot, StartSplit};
 use hub::{Hub, Identity};
 use payload::Payload;
 use port::{Changes, Port, PortState};
 use translator::{LowSide, Translator};
-
-// What an area gives. The hub counts where ok holds.
-#[derive(Clone, Copy)]
-pub struct Read {
-    pub ok: bool,
-    pub hub: Hub,
-}
-
-// ---- bytes
-
-fn fill(dst: &mut [u8], src: &[u8])
-    requires { length src.now ≡ length dst.old }
-    ensures { dst.new ≡ src.now }
-{
-    dst.copy_from_slice(src);
-}
-
-fn lesser(a: usize, b: usize) -> usize
-    ensures { result ≡ min a b }
-{
-    if a < b { a } else { b }
-}
 
 // ---- one port, 4 bytes
 
@@ -49,28 +24,21 @@ fn lesser(a: usize, b: usize) -> usize
 fn marked_port(state: PortState, m: u8) -> Port
     ensures { result ≡ marked_port state m }
 {
-    let m1 = m / 2;
-    let m2 = m1 / 2;
-    let m3 = m2 / 2;
-    let m4 = m3 / 2;
-    let m5 = m4 / 2;
-    let changes = Changes {
-        connection: m % 2 == 1,
-        enable: m1 % 2 == 1,
-        suspend: m2 % 2 == 1,
-        overcurrent: m3 % 2 == 1,
-        reset: m4 % 2 == 1,
-    };
     Port {
         state,
-        overcurrent: m5 % 2 == 1,
-        changes,
+        overcurrent: m / 2 / 2 / 2 / 2 / 2 % 2 == 1,
+        changes: Changes {
+            connection: m % 2 == 1,
+            enable: m / 2 % 2 == 1,
+            suspend: m / 2 / 2 % 2 == 1,
+            overcurrent: m / 2 / 2 / 2 % 2 == 1,
+            reset: m / 2 / 2 / 2 / 2 % 2 == 1,
+        },
     }
 }
 
 #[tactic(auto, unfolding(area_check::specs::Read::port_of))]
-fn port_of(b: &[u8]) -> Port
-    requires { length b.now ≡ 4 }
+fn port_of(b: &[u8; 4]) -> Port
     ensures { result ≡ port_of b.now }
 {
     let state = port::state_of(b[0], port::speed_of(b[1]), b[2]);
@@ -80,12 +48,7 @@ fn port_of(b: &[u8]) -> Port
 fn marks_byte(p: Port) -> u8
     ensures { result ≡ marks_byte p }
 {
-    bools::bit_of(p.changes.connection)
-        + 2 * bools::bit_of(p.changes.enable)
-        + 4 * bools::bit_of(p.changes.suspend)
-        + 8 * bools::bit_of(p.changes.overcurrent)
-        + 16 * bools::bit_of(p.changes.reset)
-        + 32 * bools::bit_of(p.overcurrent)
+    p.changes.byte() + 32 * bools::bit_of(p.overcurrent)
 }
 
 #[tactic(auto, unfolding(crate::specs::Written::port_bytes))]
@@ -98,45 +61,29 @@ fn port_bytes(p: Port) -> [u8; 4]
 
 // ---- one buffer, 72 bytes
 
-fn pid_of(n: u8) -> Pid
-    ensures { result ≡ pid_from n }
-{
-    numbers::pid_of(n as u32)
-}
-
-fn type_of(n: u8) -> TransferType
-    ensures { result ≡ type_from n }
-{
-    numbers::type_of(n as u32)
-}
-
-fn result_of(n: u8) -> DeviceResult
-    ensures { result ≡ result_from n }
-{
-    numbers::result_of(n as u32)
-}
-
 #[tactic(auto, unfolding(area_check::specs::Read::held_split))]
-fn held_split(b: &[u8]) -> StartSplit
-    requires { length b.now ≡ 72 }
+fn held_split(b: &[u8; 72]) -> StartSplit
     ensures { result ≡ held_split b.now }
 {
-    let flags = b[3];
-    let half = flags / 2;
     StartSplit {
-        lane: area_check::lane_in(flags),
-        pid: pid_of(b[1]),
-        transfer: type_of(b[2]),
-        lowspeed: flags % 2 == 1,
-        toggle: half % 2 == 1,
+        lane: area_check::lane_in(b[3]),
+        pid: numbers::pid_of(b[1].into()),
+        transfer: numbers::type_of(b[2].into()),
+        lowspeed: b[3] % 2 == 1,
+        toggle: b[3] / 2 % 2 == 1,
         address: DeviceAddress(b[4]),
         endpoint: b[5],
     }
 }
 
+fn result_of(n: u8) -> DeviceResult
+    ensures { result ≡ result_from n }
+{
+    numbers::result_of(n.into())
+}
+
 #[tactic(auto, unfolding(area_check::specs::Read::slot_of))]
-fn slot_of(b: &[u8]) -> Slot
-    requires { length b.now ≡ 72 }
+fn slot_of(b: &[u8; 72]) -> Slot
     ensures { result ≡ slot_of b.now }
 {
     let split = held_split(b);
@@ -150,17 +97,14 @@ fn slot_of(b: &[u8]) -> Slot
 }
 
 #[tactic(auto, unfolding(area_check::specs::Read::buffer_of))]
-fn buffer_of(b: &[u8]) -> Buffer
-    requires { length b.now ≡ 72 }
+fn buffer_of(b: &[u8; 72]) -> Buffer
     ensures { result ≡ buffer_of b.now }
 {
-    let slot = slot_of(b);
-    let len = b[7];
     let mut bytes = [0u8; 64];
-    fill(&mut bytes, &b[8..72]);
+    bytes.copy_from_slice(&b[8..]);
     Buffer {
-        slot,
-        payload: Payload { len, bytes },
+        slot: slot_of(b),
+        payload: Payload { len: b[7], bytes },
     }
 }
 
@@ -173,15 +117,11 @@ fn flags_byte(lowspeed: bool, toggle: bool, one: bool) -> u8
 fn held_bytes(status: u8, split: StartSplit, last: u8, len: u8) -> [u8; 8]
     ensures { result ≡ held_bytes status split last len }
 {
-    let pid = split.pid;
-    let transfer = split.transfer;
-    let lane = split.lane;
-    let flags = flags_byte(split.lowspeed, split.toggle, lane.same(Lane::One));
     [
         status,
-        numbers::pid_number(pid),
-        numbers::type_number(transfer),
-        flags,
+        numbers::pid_number(split.pid),
+        numbers::type_number(split.transfer),
+        flags_byte(split.lowspeed, split.toggle, split.lane == Lane::One),
         split.address.0,
         split.endpoint,
         last,
@@ -200,42 +140,42 @@ fn slot_bytes(slot: Slot, len: u8) -> [u8; 8]
     }
 }
 
-fn put_buffer(out: &mut [u8], b: Buffer)
+fn put_buffer(out: &mut [u8], b: &Buffer)
     requires { length out.old ≡ 72 }
-    ensures { out.new ≡ buffer_bytes b }
+    ensures { out.new ≡ buffer_bytes b.now }
 {
-    let slot = b.slot;
-    let payload = b.payload;
-    let bytes = payload.bytes;
-    let head = slot_bytes(slot, payload.len);
-    fill(&mut out[0..8], &head);
-    fill(&mut out[8..72], &bytes);
+    out[..8].copy_from_slice(&slot_bytes(b.slot, b.payload.len));
+    out[8..].copy_from_slice(&b.payload.bytes);
 }
 
 // ---- one buffer in an area, its 72 bytes from `at` on
+
+// Those bytes, where the area has them.
+fn row_at(area: &[u8], at: u16) -> Option<&[u8; 72]>
+    ensures { MatchOption result (length area.now < at + 72) (λ b. (at + 72 ≤ length area.now) × (b.now ≡ take 72 (drop at area.now))) }
+{
+    let start = at as usize;
+    area.get(start..start + 72)?.as_array()
+}
 
 // Its slot; empty where the area doesn't have the bytes.
 pub fn slot_at(area: &[u8], at: u16) -> Slot
     ensures { result ≡ (buffer_from at area.now).slot }
 {
-    let start = at as usize;
-    let end = start + 72;
-    if area.len() < end {
+    let Some(b) = row_at(area, at) else {
         return Slot::Empty;
-    }
-    slot_of(&area[start..end])
+    };
+    slot_of(b)
 }
 
 // The whole of it; an empty one where the area doesn't have the bytes.
 pub fn buffer_at(area: &[u8], at: u16) -> Buffer
     ensures { result ≡ buffer_from at area.now }
 {
-    let start = at as usize;
-    let end = start + 72;
-    if area.len() < end {
+    let Some(b) = row_at(area, at) else {
         return Buffer::vacant();
-    }
-    buffer_of(&area[start..end])
+    };
+    buffer_of(b)
 }
 
 // The buffer over those bytes, where the area has them.
@@ -244,70 +184,52 @@ pub fn put_buffer_at(buffer: Buffer, area: &mut [u8], at: u16)
 {
     let start = at as usize;
     let end = start + 72;
-    if area.len() < end {
-        return;
+    if end <= area.len() {
+        put_buffer(&mut area[start..end], &buffer);
     }
-    put_buffer(&mut area[start..end], buffer);
 }
 
 // ---- rows of ports and buffers
 
-#[tactic(auto, unfolding(area_check::specs::Read::no_ports, area_check::specs::Rows::parts, area_check::specs::Read::ports_of))]
-fn get_ports(b: &[u8], n: usize) -> [Port; 7]
-    requires { (n ≤ 7) × (length b.now ≡ n * 4) }
-    ensures { result ≡ ports_of n b.now }
+#[tactic(auto, unfolding(area_check::specs::Read::no_ports))]
+fn get_ports(rows: &[[u8; 4]]) -> [Port; 7]
+    requires { length rows.now ≤ 7 }
+    ensures { result ≡ map port_of rows.now ++ drop (length rows.now) no_ports }
 {
-    let mut row = [Port::new(); 7];
-    let mut i: usize = 0;
-    while i < n {
-        let at = i * 4;
-        let end = at + 4;
-        row[i] = port_of(&b[at..end]);
-        i += 1;
+    let mut ports = [Port::new(); 7];
+    for (i, row) in rows.iter().enumerate() {
+        ports[i] = port_of(row);
     }
-    row
+    ports
 }
 
-#[tactic(auto, unfolding(area_check::specs::Read::no_buffers, area_check::specs::Rows::parts, area_check::specs::Read::buffers_of))]
-fn get_buffers(b: &[u8], n: usize) -> [Buffer; 4]
-    requires { (n ≤ 4) × (length b.now ≡ n * 72) }
-    ensures { result ≡ buffers_of n b.now }
+#[tactic(auto, unfolding(area_check::specs::Read::no_buffers))]
+fn get_buffers(rows: &[[u8; 72]]) -> [Buffer; 4]
+    requires { length rows.now ≤ 4 }
+    ensures { result ≡ map buffer_of rows.now ++ drop (length rows.now) no_buffers }
 {
-    let mut row = [Buffer::vacant(); 4];
-    let mut i: usize = 0;
-    while i < n {
-        let at = i * 72;
-        let end = at + 72;
-        row[i] = buffer_of(&b[at..end]);
-        i += 1;
+    let mut buffers = [Buffer::vacant(); 4];
+    for (i, row) in rows.iter().enumerate() {
+        buffers[i] = buffer_of(row);
     }
-    row
+    buffers
 }
 
-fn put_ports(out: &mut [u8], ports: [Port; 7], n: usize)
-    requires { (n ≤ 7) × (length out.old ≡ n * 4) }
-    ensures { out.new ≡ flat port_bytes (take n ports) }
+fn put_ports(out: &mut [u8], ports: &[Port])
+    requires { (length ports.now ≤ 7) × (length out.old ≡ length ports.now * 4) }
+    ensures { out.new ≡ flat port_bytes ports.now }
 {
-    let mut i: usize = 0;
-    while i < n {
-        let form = port_bytes(ports[i]);
-        let at = i * 4;
-        let end = at + 4;
-        fill(&mut out[at..end], &form);
-        i += 1;
+    for (i, port) in ports.iter().enumerate() {
+        out[i * 4..i * 4 + 4].copy_from_slice(&port_bytes(*port));
     }
 }
 
-fn put_buffers(out: &mut [u8], buffers: [Buffer; 4], n: usize)
-    requires { (n ≤ 4) × (length out.old ≡ n * 72) }
-    ensures { out.new ≡ flat buffer_bytes (take n buffers) }
+fn put_buffers(out: &mut [u8], buffers: &[Buffer])
+    requires { (length buffers.now ≤ 4) × (length out.old ≡ length buffers.now * 72) }
+    ensures { out.new ≡ flat buffer_bytes buffers.now }
 {
-    let mut i: usize = 0;
-    while i < n {
-        let at = i * 72;
-        let end = at + 72;
-        put_buffer(&mut out[at..end], buffers[i]);
-        i += 1;
+    for (i, buffer) in buffers.iter().enumerate() {
+        put_buffer(&mut out[i * 72..i * 72 + 72], buffer);
     }
 }
 
@@ -337,25 +259,24 @@ pub fn running_byte(low: LowSide) -> u8
     ensures { result ≡ running_byte low }
 {
     match low {
-        LowSide::Idle => 0,
         LowSide::Running(n) => n.0,
-        LowSide::Abandoned => 0,
+        LowSide::Idle | LowSide::Abandoned => 0,
     }
 }
 
 #[tactic(auto, unfolding(crate::specs::Written::head_bytes))]
-fn head_bytes(identity: Identity, configured: bool, count: BufferCount, low: LowSide) -> [u8; 8]
-    ensures { result ≡ head_bytes identity configured count.0 low }
+fn head_bytes(hub: &Hub) -> [u8; 8]
+    ensures { result ≡ head_bytes hub.now.identity hub.now.configured hub.now.translator.count hub.now.translator.low }
 {
     [
-        identity.ports,
-        count.0,
-        identity.powergood,
-        identity.current,
-        identity.removable,
-        bools::bit_of(configured),
-        low_byte(low),
-        running_byte(low),
+        hub.identity.ports,
+        hub.translator.count,
+        hub.identity.powergood,
+        hub.identity.current,
+        hub.identity.removable,
+        bools::bit_of(hub.configured),
+        low_byte(hub.translator.low),
+        running_byte(hub.translator.low),
     ]
 }
 
@@ -364,107 +285,61 @@ fn head_bytes(identity: Identity, configured: bool, count: BufferCount, low: Low
 pub fn area_length(ports: u32, buffers: u32) -> usize
     ensures { result ≡ area_length ports buffers }
 {
-    if ports < 1 {
-        return 0;
+    match (ports, buffers) {
+        (1..=7, 2..=4) => 8 + ports as usize * 4 + buffers as usize * 72,
+        _ => 0,
     }
-    if 7 < ports {
-        return 0;
-    }
-    if buffers < 2 {
-        return 0;
-    }
-    if 4 < buffers {
-        return 0;
-    }
-    8 + (ports as usize) * 4 + (buffers as usize) * 72
 }
 
 fn decode(area: &[u8]) -> Hub
     requires { (8 ≤ length area.now) × (get_or area.now 0 0 ≤ 7) × (get_or area.now 1 0 ≤ 4) × (length area.now ≡ 8 + get_or area.now 0 0 * 4 + get_or area.now 1 0 * 72) }
     ensures { result ≡ decoded area.now }
 {
-    let count = area[0];
-    let held = area[1];
-    let n = count as usize;
-    let m = held as usize;
-    let mid = 8 + n * 4;
-    let end = mid + m * 72;
-    let identity = Identity {
-        ports: count,
-        powergood: area[2],
-        current: area[3],
-        removable: area[4],
-    };
-    let configured = area[5] == 1;
-    let low = low_of(area[6], area[7]);
-    let ports = get_ports(&area[8..mid], n);
-    let buffers = get_buffers(&area[mid..end], m);
+    let mid = 8 + area[0] as usize * 4;
+    let (ports, _) = area[8..mid].as_chunks::<4>();
+    let (buffers, _) = area[mid..].as_chunks::<72>();
     Hub {
-        identity,
-        configured,
-        ports,
-        translator: Translator {
-            buffers,
-            count: held,
-            low,
+        identity: Identity {
+            ports: area[0],
+            powergood: area[2],
+            current: area[3],
+            removable: area[4],
         },
-    }
-}
-
-#[tactic(auto, unfolding(crate::specs::Read::refusal))]
-fn refuse() -> Read
-    ensures { result ≡ refusal }
-{
-    let identity = Identity {
-        ports: 0,
-        powergood: 0,
-        current: 0,
-        removable: 0,
-    };
-    Read {
-        ok: false,
-        hub: Hub {
-            identity,
-            configured: false,
-            ports: [Port::new(); 7],
-            translator: Translator::new(BufferCount(0)),
+        configured: area[5] == 1,
+        ports: get_ports(ports),
+        translator: Translator {
+            buffers: get_buffers(buffers),
+            count: area[1],
+            low: low_of(area[6], area[7]),
         },
     }
 }
 
 // The hub whose written form the area is, if of a valid one. Kept apart: inlined, the frames add up (docs/SPEED.md).
 #[inline(never)]
-pub fn read_area(area: &[u8]) -> Read
+pub fn read_area(area: &[u8]) -> Option<Hub>
     ensures { result ≡ read_of area.now }
 {
-    if area_check::is_area(area) {
-        let hub = decode(area);
-        return Read { ok: true, hub };
+    if !area_check::is_area(area) {
+        return None;
     }
-    refuse()
+    Some(decode(area))
 }
 
 // The hub's written form over the area, where the area has its length; else the area is kept.
 pub fn write_area(hub: Hub, area: &mut [u8])
     ensures { area.new ≡ written_over hub area.old }
 {
-    let identity = hub.identity;
-    let translator = hub.translator;
-    let n = lesser(identity.ports as usize, 7);
-    let m = lesser(translator.count as usize, 4);
+    let n = (hub.identity.ports as usize).min(7);
+    let m = (hub.translator.count as usize).min(4);
     let mid = 8 + n * 4;
     let end = mid + m * 72;
     if area.len() != end {
         return;
     }
-    let low = translator.low;
-    let count = BufferCount(translator.count);
-    let head = head_bytes(identity, hub.configured, count, low);
-    let ports = hub.ports;
-    let buffers = translator.buffers;
-    fill(&mut area[0..8], &head);
-    put_ports(&mut area[8..mid], ports, n);
-    put_buffers(&mut area[mid..end], buffers, m);
+    area[0..8].copy_from_slice(&head_bytes(&hub));
+    put_ports(&mut area[8..mid], &hub.ports[..n]);
+    put_buffers(&mut area[mid..end], &hub.translator.buffers[..m]);
 }
 
 // Acceptance is exact; the function does nothing.

@@ -2,66 +2,18 @@
 use mathlib.Core.Path.{◌≡◌, refl, sym, ap}
 use mathlib.Core.List.{List}
 use mathlib.Core.Bool.{Bool, true, false, cond, ◌&&◌, ◌||◌, and-false, and_assoc}
-use Prim.Native.Nat.{ℕ, zero, suc, ◌+◌, ◌≤◌, ◌<◌, zero-le}
-use native.Mathlib.Decide.{dec_le, dec_lt}
+use Prim.Native.Nat.{ℕ, zero, suc, ◌+◌, ◌≤◌, ◌<◌}
+use native.Mathlib.Decide.{dec_lt}
 use native.Mathlib.Omega.{arith}
 use lib.ListN.{length, get_or, drop}
-use lib.Dec.{eqb, leb, ltb}
+use lib.Dec.{eqb, ltb}
 use borrow.Author.Tests.{eqb-true, ne_eqb, le-ltb}
-use Rattle.buffer.specs.declared.Pid.TheVariants as pid
-use Rattle.buffer.specs.declared.TransferType.TheVariants.{Control, Bulk}
 use Rattle.buffer.specs.Lengths.{type_fits, numbers_fit, start_length, start_fits, result_length}
 use Rattle.buffer.specs.Valid.{slot_fits}
 use Rattle.numbers.specs.Named.{is_pid, pid_from, is_type, type_from, is_result, result_from}
 use Rattle.area_check.specs.Rows.{blank}
-use Rattle.area_check.specs.Read.{held_split, slot_named, slot_of, state_fits, held_fits, names_fit, buffer_fits}
+use Rattle.area_check.specs.Read.{held_split, slot_named, slot_of, held_fits, names_fit, buffer_fits}
 use Rattle.area_check.proofs.Rows.{blank_step}
-
--- ---- one port
-
--- a number up to 7 is one of eight
-pub seven : (n : ℕ) → n ≤ 7 → ¬ (n ≡ 0) → ¬ (n ≡ 1) → ¬ (n ≡ 2) → ¬ (n ≡ 3) → ¬ (n ≡ 4) → ¬ (n ≡ 5) → ¬ (n ≡ 6) → n ≡ 7
-seven zero l a b c d e f g = absurd (a refl)
-seven (suc zero) l a b c d e f g = absurd (b refl)
-seven (suc (suc zero)) l a b c d e f g = absurd (c refl)
-seven (suc (suc (suc zero))) l a b c d e f g = absurd (d refl)
-seven (suc (suc (suc (suc zero)))) l a b c d e f g = absurd (e refl)
-seven (suc (suc (suc (suc (suc zero))))) l a b c d e f g = absurd (f refl)
-seven (suc (suc (suc (suc (suc (suc zero)))))) l a b c d e f g = absurd (g refl)
-seven (suc (suc (suc (suc (suc (suc (suc zero))))))) l a b c d e f g = refl
-seven (suc (suc (suc (suc (suc (suc (suc (suc n)))))))) l a b c d e f g = absurd (omega (arith, l))
-
-far : (n k : ℕ) → k ≤ 8 → ¬ (n ≤ 7) → k ≤ n
-far n k h f = omega arith
-
--- no state has a number from 8 on
-pub state_none : (g : Bool) (s v t : ℕ)
-    → ¬ (s ≡ 0) → ¬ (s ≡ 1) → ¬ (s ≡ 2) → ¬ (s ≡ 3) → ¬ (s ≡ 4) → ¬ (s ≡ 5) → ¬ (s ≡ 6) → ¬ (s ≡ 7) → false ≡ state_fits g s v t
-state_none g s v t n₀ n₁ n₂ n₃ n₄ n₅ n₆ n₇ = go (dec_le s 7) (λ h. n₇ (seven s h n₀ n₁ n₂ n₃ n₄ n₅ n₆))
-  where
-    go : Dec (s ≤ 7) → ¬ (s ≤ 7) → false ≡ state_fits g s v t
-    go (yes h) f = absurd (f h)
-    go (no h) f = rw (le-ltb s 3 (far s 3 (omega arith) h), le-ltb s 8 (far s 8 (omega arith) h), le-ltb v 0 zero-le)
-
--- ---- a start-split and a result
-
--- SETUP is control
-pub type_control : (t : ℕ) → eqb t 0 ≡ is_type t && type_fits pid.Setup (type_from t)
-type_control t = go (eqb t 0) (eqb t 2) (λ e. ap (λ (n : ℕ). eqb n 2) (eqb-true t 0 e))
-  where
-    go : (a b : Bool) → (a ≡ true → b ≡ false) → a ≡ (a || b) && type_fits pid.Setup (cond b Bulk Control)
-    go true true f = f refl
-    go true false f = refl
-    go false true f = refl
-    go false false f = refl
-
--- only data has a payload
-pub none_long : (n : ℕ) → leb n 64 && eqb n 0 ≡ eqb n 0
-none_long n = go (eqb n 0) refl
-  where
-    go : (b : Bool) → eqb n 0 ≡ b → leb n 64 && b ≡ b
-    go true e = rw (eqb-true n 0 e)
-    go false e = and-false (leb n 64)
 
 -- ---- one buffer
 
@@ -141,7 +93,7 @@ module _ (l : List ℕ) where
           let c : s ≡ 3 → ⊥ = λ e. omega arith in
           rw (le-ltb s 4 f, ne_eqb s 1 a, ne_eqb s 2 b, ne_eqb s 3 c) (sym (and-false split_tests))
 
-  pub held_end : ¬ (get_or l 0 0 ≡ 0) → buffer_fits l ≡ (split_tests && held_tests (get_or l 0 0)) && blank (drop (8 + get_or l 7 0) l)
+  pub held_end : ¬ (get_or l 0 0 ≡ 0) → (split_tests && held_tests (get_or l 0 0)) && blank (drop (8 + get_or l 7 0) l) ≡ buffer_fits l
   unfolding buffer_fits names_fit slot_of
   held_end d =
-      rw (ne_eqb (get_or l 0 0) 0 d) (ap (λ (b : Bool). b && blank (drop (8 + get_or l 7 0) l)) (tested (get_or l 0 0) d))
+      sym (rw (ne_eqb (get_or l 0 0) 0 d) (ap (λ (b : Bool). b && blank (drop (8 + get_or l 7 0) l)) (tested (get_or l 0 0) d)))

@@ -1,18 +1,24 @@
 -- Laws of rows, over any type of element and any size: what a turn of a loop over a row does, and that reading a row gives back what was
 -- written. Assumes nothing.
 use mathlib.Core.Path.{◌≡◌, refl, sym, ap, subst, ◌∙◌}
-use mathlib.Core.List.{List, [], ◌∷◌, ◌++◌, append_assoc, append-nil}
-use mathlib.Core.Bool.{Bool, true, false, true≢false, ◌&&◌, and-true, and_assoc, and-eq-true_iff}
-use Prim.Native.Nat.{ℕ, zero, suc, ◌+◌, ◌-◌, ◌*◌, ◌≤◌, ◌<◌, zero-le, suc-le-suc}
+use mathlib.Core.List.{List, [], ◌∷◌, ◌++◌, map, append_assoc, append-nil}
+use mathlib.Core.Bool.{Bool, true, false, ◌&&◌, and-true, and_assoc, and-eq-true_iff}
+use Prim.Native.Nat.{ℕ, zero, suc, ◌+◌, ◌-◌, ◌*◌, ◌≤◌, ◌<◌, min, zero-le, suc-le-suc}
 use native.Mathlib.Nat.{zero-mul, suc-mul, mul-le-mul_right, add-sub_cancel_left, add-sub_of_le, add-mul, add_comm, le_of_suc-le-suc, not-suc-le-zero}
 use native.Mathlib.Numerals.{add-one}
 use native.Mathlib.Omega.{arith}
-use lib.ListN.{length, get_or, take, drop, set, replicate, length-append, length-drop, take-append-drop, drop_of_length-le, get_or-append}
-use lib.Seq.{length-take-le, drop-length, take-suc, take_at, drop_at, drop-drop, drop-cons, set_at, split_at, set_split, ext_get_or, get_or-drop, get_or-append-add}
+use native.Mathlib.Decide.{dec_le}
+use lib.ListN.{length-map, length, get_or, take, drop, set, replicate, length-append, length-drop, take-append-drop, drop_of_length-le, get_or-append}
+use lib.Seq.{length-take-le, take-suc, take_at, drop_at, drop-drop, take_all, drop-cons, set_at, split_at, set_split, ext_get_or, get_or-drop, get_or-append-add}
 use lib.Dec.{eqb}
-use borrow.Author.Tests.{eq-eqb, ne_eqb, eqb-true}
+use borrow.Author.Tests.{ne_eqb, eqb-true, eqb-false}
 use borrow.Rule.Slice.PartMut.{put_mid}
 use Rattle.payload.specs.Bytes.{flat}
+use Rattle.std.proofs.lemmas.List.{map-append}
+use Rattle.std.proofs.lemmas.Nat.{le_or_l, le_or_r}
+use Rattle.std.specs.Prelude.{bit_or}
+use Rattle.std.specs.Simd.{first_chunks}
+use Rattle.std.specs.List.{list_all}
 use Rattle.area_check.specs.Rows.{parts, every, blank}
 
 -- the i-th of n parts of k bytes has k bytes
@@ -24,41 +30,27 @@ part_size i n k o h s =
 -- ---- reading a row
 
 module _ {A : Type 0} (dec : List ℕ → A) (k : ℕ) where
-  pub parts_more : (i : ℕ) (l : List ℕ) → parts dec k (suc i) l ≡ parts dec k i l ++ (dec (take k (drop (i * k) l)) ∷ [])
-  unfolding parts
-  parts_more zero l = ap (λ (n : ℕ). dec (take k (drop n l)) ∷ []) (sym (zero-mul k))
-  parts_more (suc i) l =
-      ap (λ (r : List A). dec (take k l) ∷ r)
-      (parts_more i (drop k l)
-      ∙ ap (λ (m : List ℕ). parts dec k i (drop k l) ++ (dec (take k m) ∷ []))
-      (drop-drop (i * k) k l ∙ ap (λ (n : ℕ). drop n l) (add_comm k (i * k) ∙ sym (suc-mul i k))))
-
   pub parts_length : (n : ℕ) (l : List ℕ) → length (parts dec k n l) ≡ n
   unfolding parts
   parts_length zero l = refl
   parts_length (suc n) l = ap suc (parts_length n (drop k l))
 
-  pub parts_at : (n i : ℕ) (l : List ℕ) (d : A) → i < n → get_or (parts dec k n l) i d ≡ dec (take k (drop (i * k) l))
-  unfolding parts
-  parts_at zero i l d h = absurd (not-suc-le-zero h)
-  parts_at (suc n) zero l d h = ap (λ (m : ℕ). dec (take k (drop m l))) (sym (zero-mul k))
-  parts_at (suc n) (suc i) l d h =
-      parts_at n i (drop k l) d (le_of_suc-le-suc h)
-      ∙ ap (λ (m : List ℕ). dec (take k m)) (drop-drop (i * k) k l ∙ ap (λ (j : ℕ). drop j l) (add_comm k (i * k) ∙ sym (suc-mul i k)))
-
-  -- a turn of the loop that reads a row, which was row₀: v is stored at i
-  pub get_turn : (row₀ row : List A) (v : A) (i : ℕ) (l : List ℕ) → i < length row₀ → row ≡ parts dec k i l ++ drop i row₀
-      → v ≡ dec (take (i * k + k - i * k) (drop (i * k) l)) → set row i v ≡ parts dec k (i + 1) l ++ drop (i + 1) row₀
-  get_turn row₀ row v i l h e q =
-      let n : parts dec k (i + 1) l ≡ parts dec k i l ++ (v ∷ []) =
-      ap (λ (m : ℕ). parts dec k m l) (add-one i)
-      ∙ parts_more i l
-      ∙ ap (λ (w : A). parts dec k i l ++ (w ∷ [])) (sym (q ∙ ap (λ (n : ℕ). dec (take n (drop (i * k) l))) (add-sub_cancel_left (i * k) k))) in
-      ap (λ (r : List A). set r i v) (e ∙ ap (λ (r : List A). parts dec k i l ++ r) (drop-cons row₀ i v h))
-      ∙ set_at (parts dec k i l) (get_or row₀ i v) (drop (suc i) row₀) v i (parts_length i l)
-      ∙ sym (append_assoc (parts dec k i l) (v ∷ []) (drop (suc i) row₀))
-      ∙ ap (λ (r : List A). r ++ drop (suc i) row₀) (sym n)
-      ∙ ap (λ (m : ℕ). parts dec k (i + 1) l ++ drop m row₀) (sym (add-one i))
+-- a turn of the loop that reads rows into elements, which were those of row₀: v is stored at i
+pub get_turn : {A : Type 0} (dec : List ℕ → A) (row₀ row : List A) (v : A) (rows : List (List ℕ)) (i : ℕ) → i < length row₀ → i < length rows
+    → row ≡ map dec (take i rows) ++ drop i row₀ → v ≡ dec (get_or rows i []) → set row i v ≡ map dec (take (i + 1) rows) ++ drop (i + 1) row₀
+get_turn {A} dec row₀ row v rows i h k e q =
+    let f : List A = map dec (take i rows) in
+    let nf : length f ≡ i = length-map (take i rows) dec ∙ length-take-le i rows (omega arith) in
+    let n : map dec (take (i + 1) rows) ≡ f ++ (v ∷ []) =
+    ap (λ (m : ℕ). map dec (take m rows)) (add-one i)
+    ∙ ap (map dec) (take-suc rows i [] k)
+    ∙ map-append dec (take i rows) (get_or rows i [] ∷ [])
+    ∙ ap (λ (w : A). f ++ (w ∷ [])) (sym q) in
+    ap (λ (r : List A). set r i v) (e ∙ ap (λ (r : List A). f ++ r) (drop-cons row₀ i v h))
+    ∙ set_at f (get_or row₀ i v) (drop (suc i) row₀) v i nf
+    ∙ sym (append_assoc f (v ∷ []) (drop (suc i) row₀))
+    ∙ ap (λ (r : List A). r ++ drop (suc i) row₀) (sym n)
+    ∙ ap (λ (m : ℕ). map dec (take (i + 1) rows) ++ drop m row₀) (sym (add-one i))
 
 -- ---- writing a row
 
@@ -121,53 +113,23 @@ module _ {A : Type 0} (enc : A → List ℕ) where
       ∙ ap (λ (n : ℕ). i * k + n) (length-drop (i * k) o₀)
       ∙ add-sub_of_le h
 
-  -- n elements are written, over all the bytes
-  pub put_end : (k n : ℕ) (xs : List A) (o₀ o : List ℕ) (i : ℕ) → i ≡ n → length o₀ ≡ n * k → Put k xs o₀ o i → o ≡ flat enc (take n xs)
-  put_end k n xs o₀ o i e s p =
-      p.bytes
-      ∙ ap (λ (m : ℕ). flat enc (take i xs) ++ drop m o₀) (ap (λ (m : ℕ). m * k) e ∙ sym s)
-      ∙ ap (λ (r : List ℕ). flat enc (take i xs) ++ r) (drop-length o₀)
-      ∙ append-nil (flat enc (take i xs))
-      ∙ ap (λ (m : ℕ). flat enc (take m xs)) e
+-- ---- rows as a slice of arrays gives them
 
--- ---- testing a row
+pub chunks_long : {X : Type 0} (k n : ℕ) (l : List X) → length (first_chunks k n l) ≡ n
+chunks_long k zero l = refl
+chunks_long k (suc n) l = ap suc (chunks_long k n (drop k l))
 
-module _ (f : List ℕ → Bool) (k : ℕ) where
-  pub every_more : (i : ℕ) (l : List ℕ) → every f k (suc i) l ≡ every f k i l && f (take k (drop (i * k) l))
-  unfolding every
-  every_more zero l = and-true (f (take k l)) ∙ ap (λ (n : ℕ). f (take k (drop n l))) (sym (zero-mul k))
-  every_more (suc i) l =
-      ap (λ (b : Bool). f (take k l) && b)
-      (every_more i (drop k l)
-      ∙ ap (λ (m : List ℕ). every f k i (drop k l) && f (take k m))
-      (drop-drop (i * k) k l ∙ ap (λ (n : ℕ). drop n l) (add_comm k (i * k) ∙ sym (suc-mul i k))))
-      ∙ sym (and_assoc (f (take k l)) (every f k i (drop k l)) (f (take k (drop (suc i * k) l))))
+-- testing each
+pub every_rows : (f : List ℕ → Bool) (k n : ℕ) (l : List ℕ) → list_all f (first_chunks k n l) ≡ every f k n l
+unfolding every
+every_rows f k zero l = refl
+every_rows f k (suc n) l = ap (λ (b : Bool). f (take k l) && b) (every_rows f k n (drop k l))
 
-  -- a part that fails is not made good by those behind it
-  every_false : (i n : ℕ) (l : List ℕ) → i ≤ n → every f k i l ≡ false → every f k n l ≡ false
-  unfolding every
-  every_false zero n l h e = absurd (true≢false e)
-  every_false (suc i) zero l h e = absurd (not-suc-le-zero h)
-  every_false (suc i) (suc n) l h e = go (f (take k l)) (every_false i n (drop k l) (le_of_suc-le-suc h)) e
-    where
-      go : (b : Bool) → (every f k i (drop k l) ≡ false → every f k n (drop k l) ≡ false) → b && every f k i (drop k l) ≡ false
-          → b && every f k n (drop k l) ≡ false
-      go true g q = g q
-      go false g q = refl
-
-  -- a turn of the loop that tests a row, and leaves it at the first part that fails
-  module _ (i : ℕ) (l : List ℕ) (now : Bool) (e : every f k i l ≡ true) (q : now ≡ f (take (i * k + k - i * k) (drop (i * k) l))) where
-    tested : every f k (suc i) l ≡ now
-    tested =
-        every_more i l
-        ∙ ap (λ (b : Bool). b && f (take k (drop (i * k) l))) e
-        ∙ sym (q ∙ ap (λ (n : ℕ). f (take n (drop (i * k) l))) (add-sub_cancel_left (i * k) k))
-
-    pub test_turn : now ≡ true → every f k (i + 1) l ≡ true
-    test_turn t = ap (λ (m : ℕ). every f k m l) (add-one i) ∙ tested ∙ t
-
-    pub test_stop : (n : ℕ) → i < n → now ≡ false → false ≡ every f k n l
-    test_stop n h t = sym (every_false (suc i) n l h (tested ∙ t))
+-- reading each
+pub parts_rows : {A : Type 0} (dec : List ℕ → A) (k n : ℕ) (l : List ℕ) → map dec (first_chunks k n l) ≡ parts dec k n l
+unfolding parts
+parts_rows dec k zero l = refl
+parts_rows dec k (suc n) l = ap (λ r. dec (take k l) ∷ r) (parts_rows dec k n (drop k l))
 
 -- ---- zeros
 
@@ -175,22 +137,41 @@ pub blank_step : (l : List ℕ) (i : ℕ) → i < length l → blank (drop i l) 
 unfolding blank
 blank_step l i h = ap blank (drop-cons l i 0 h) ∙ ap (λ (n : ℕ). eqb (get_or l i 0) 0 && blank (drop n l)) (sym (add-one i))
 
-and-false : (b : Bool) → false ≡ b && false
-and-false true = refl
-and-false false = refl
+-- bytes come to 0 if both are
+both_zero : (a b : ℕ) → eqb (bit_or a b) 0 ≡ eqb a 0 && eqb b 0
+both_zero a b = go (eqb a 0) refl (eqb b 0) refl
+  where
+    go : (x : Bool) → eqb a 0 ≡ x → (y : Bool) → eqb b 0 ≡ y → eqb (bit_or a b) 0 ≡ x && y
+    go true p true q = rw (eqb-true a 0 p, eqb-true b 0 q)
+    go true p false q = ne_eqb (bit_or a b) 0 (λ e. eqb-false b 0 q (let h : b ≤ bit_or a b = le_or_r a b in omega arith))
+    go false p y q = ne_eqb (bit_or a b) 0 (λ e. eqb-false a 0 p (let h : a ≤ bit_or a b = le_or_l a b in omega arith))
 
--- a turn of the loop that looks for zeros: what is left still gives the answer
-module _ (l : List ℕ) (start i : ℕ) (ok : Bool) (h : i < length l) (e : blank (drop start l) ≡ ok && blank (drop i l)) where
-  pub blank_other : ¬ (get_or l i 0 ≡ 0) → blank (drop start l) ≡ false && blank (drop (i + 1) l)
-  blank_other n =
-      e ∙ ap (λ (b : Bool). ok && b) (blank_step l i h ∙ ap (λ (b : Bool). b && blank (drop (i + 1) l)) (ne_eqb _ _ n)) ∙ sym (and-false ok)
+-- a turn of the loop that looks for zeros, with what the bytes come to so far: what is left still gives the answer
+pub blank_turn : (l : List ℕ) (i all : ℕ) → i < length l → blank l ≡ eqb all 0 && blank (drop i l)
+    → blank l ≡ eqb (bit_or all (get_or l i 0)) 0 && blank (drop (i + 1) l)
+blank_turn l i all h e =
+    e
+    ∙ ap (λ (b : Bool). eqb all 0 && b) (blank_step l i h)
+    ∙ sym (ap (λ (b : Bool). b && blank (drop (i + 1) l)) (both_zero all (get_or l i 0)) ∙ and_assoc (eqb all 0) (eqb (get_or l i 0) 0) _)
 
-  pub blank_zero : get_or l i 0 ≡ 0 → blank (drop start l) ≡ ok && blank (drop (i + 1) l)
-  blank_zero z = e ∙ ap (λ (b : Bool). ok && b) (blank_step l i h ∙ ap (λ (b : Bool). b && blank (drop (i + 1) l)) (eq-eqb _ _ z))
-
-pub blank_end : (l : List ℕ) (start i : ℕ) (ok : Bool) → length l ≤ i → blank (drop start l) ≡ ok && blank (drop i l) → ok ≡ blank (drop start l)
+pub blank_end : (l : List ℕ) (i all : ℕ) → length l ≤ i → blank l ≡ eqb all 0 && blank (drop i l) → eqb all 0 ≡ blank l
 unfolding blank
-blank_end l start i ok h e = sym (e ∙ ap (λ (r : List ℕ). ok && blank r) (drop_of_length-le l h) ∙ and-true ok)
+blank_end l i all h e = sym (e ∙ ap (λ (r : List ℕ). eqb all 0 && blank r) (drop_of_length-le l h) ∙ and-true (eqb all 0))
+
+-- the slice from a place on
+pub rest_is : {A : Type 0} (l : List A) (m : ℕ) → take (length l - m) (drop m l) ≡ drop m l
+rest_is l m = take_all (length l - m) (drop m l) (simp length-drop (omega arith))
+
+-- the bytes looked at are those from the start on, none where there are none
+pub blank_slice : (l : List ℕ) (start m : ℕ) → m ≡ min start (length l) → take (length l - m) (drop m l) ≡ drop start l
+blank_slice l start m e = rest_is l m ∙ go (dec_le start (length l))
+  where
+    go : Dec (start ≤ length l) → drop m l ≡ drop start l
+    go (yes h) = let q : m ≡ start = omega arith in ap (λ (k : ℕ). drop k l) q
+    go (no h) =
+        let q : length l ≤ m = omega arith in
+        let r : length l ≤ start = omega arith in
+        drop_of_length-le l q ∙ sym (drop_of_length-le l r)
 
 pub blank_to : (l : List ℕ) → blank l ≡ true → l ≡ replicate (length l) 0
 unfolding blank

@@ -1,16 +1,22 @@
 -- What the first bytes and the length of an area say. Assumes nothing.
 use mathlib.Core.Path.{◌≡◌, sym, ap, ◌∙◌}
-use mathlib.Core.List.{List}
-use mathlib.Core.Bool.{Bool, true, false, not, ◌&&◌, and_assoc, and-eq-true_iff}
-use Prim.Native.Nat.{ℕ, ◌+◌, ◌-◌, ◌*◌, ◌^◌, ◌%◌, ◌≤◌, ◌<◌}
+use mathlib.Core.List.{List, map}
+use mathlib.Core.Bool.{Bool, true, not, ◌&&◌, ◌||◌, and_assoc, and-eq-true_iff}
+use Prim.Native.Nat.{ℕ, ◌+◌, ◌-◌, ◌*◌, ◌^◌, ◌%◌, ◌/◌, ◌≤◌, ◌<◌}
+use native.Mathlib.Omega.{arith}
+use lib.Seq.{length-take-le}
 use native.Mathlib.Nat.{add-sub_cancel_left}
-use lib.ListN.{length, get_or, take, drop}
+use lib.ListN.{length, get_or, take, drop, length-drop}
 use lib.Dec.{eqb, leb, ltb}
 use borrow.Author.Tests.{eqb-true, leb-true, ltb-true}
 use Rattle.hub.specs.Hub.{new_fits}
 use Rattle.area_check.specs.Rows.{every}
-use Rattle.translator.specs.Slots.{slots_in}
-use Rattle.area_check.specs.Read.{buffers_of, port_part, buffer_part, port_fits, buffer_fits, clashing, crowded, runs, low_fits, head_fits, sized, rows_fit, accepts}
+use Rattle.std.specs.List.{list_all}
+use Rattle.std.specs.Simd.{first_chunks}
+use Rattle.buffer.specs.declared.Lane.TheVariants.{Zero, One}
+use Rattle.area_check.proofs.Rows.{every_rows}
+use Rattle.area_check.proofs.Ties.{clashing_rows, runs_rows}
+use Rattle.area_check.specs.Read.{port_part, buffer_part, port_fits, buffer_fits, slot_of, filled_by, clashing, runs, low_fits, head_fits, sized, rows_fit, accepts}
 
 -- what a right head and length say
 pub record Sized (a : List ℕ) : Type 0 where
@@ -69,32 +75,40 @@ pub taken_sized : (a : List ℕ) → accepts a ≡ true → Sized a
 unfolding accepts
 taken_sized a e = sized_to a ((and-eq-true_iff (sized a) (rows_fit a)).0 e).0
 
--- ---- the paths through `rows_fit`
+-- ---- the rows of `rows_fit`
 
 module _ (a : List ℕ) where
-  abbrev port_tests : List ℕ → Bool
-  port_tests l = every (port_fits (eqb (get_or a 5 0) 1)) 4 (get_or a 0 0) l
+  abbrev pub port_tests : List (List ℕ) → Bool
+  port_tests rows = list_all (port_fits (eqb (get_or a 5 0) 1)) rows
 
-  abbrev buffer_tests : List ℕ → Bool
-  buffer_tests l =
-      every buffer_fits 72 (get_or a 1 0) l
-      && (not (clashing (slots_in (buffers_of (get_or a 1 0) l)))
-      && (not (crowded (get_or a 1 0) l) && runs (slots_in (buffers_of (get_or a 1 0) l)) (get_or a 6 0) (get_or a 7 0)))
+  abbrev pub buffer_tests : List (List ℕ) → Bool
+  buffer_tests rows =
+      list_all buffer_fits rows
+      && (not (clashing (map slot_of rows))
+      && (not (list_all (filled_by Zero) rows || list_all (filled_by One) rows) && runs (map slot_of rows) (get_or a 6 0) (get_or a 7 0)))
 
-  module _ (x : Bool) (e : x ≡ port_tests (take (8 + get_or a 0 0 * 4 - 8) (drop 8 a))) where
-    rows_is : rows_fit a ≡ x && buffer_tests (buffer_part a)
-    unfolding rows_fit
-    rows_is =
-        and_assoc (port_tests (port_part a)) _ _
-        ∙ ap (λ (b : Bool). b && buffer_tests (buffer_part a))
-        (sym (e ∙ ap (λ (k : ℕ). port_tests (take k (drop 8 a))) (add-sub_cancel_left 8 (get_or a 0 0 * 4))))
+  pub rows_is : port_tests (first_chunks 4 (get_or a 0 0) (port_part a)) && buffer_tests (first_chunks 72 (get_or a 1 0) (buffer_part a)) ≡ rows_fit a
+  unfolding rows_fit
+  rows_is =
+      let m : ℕ = get_or a 1 0 in
+      let b : List ℕ = buffer_part a in
+      rw (every_rows (port_fits (eqb (get_or a 5 0) 1)) 4 (get_or a 0 0) (port_part a), every_rows buffer_fits 72 m b, every_rows (filled_by Zero) 72 m b, every_rows (filled_by One) 72 m b, clashing_rows m b, runs_rows m b (get_or a 6 0) (get_or a 7 0))
+      (sym (and_assoc (every (port_fits (eqb (get_or a 5 0) 1)) 4 (get_or a 0 0) (port_part a)) _ _))
 
-    pub rows_not : x ≡ false → false ≡ rows_fit a
-    rows_not f = sym (rows_is ∙ ap (λ (b : Bool). b && buffer_tests (buffer_part a)) f)
+  module _ (h : length a ≡ 8 + get_or a 0 0 * 4 + get_or a 1 0 * 72) where
+    -- the slices that the rows are of
+    pub port_rows : (p : List ℕ) → p ≡ take (8 + get_or a 0 0 * 4 - 8) (drop 8 a) → first_chunks 4 (length p / 4) p ≡ first_chunks 4 (get_or a 0 0) (port_part a)
+    port_rows p e =
+        let q : p ≡ port_part a = e ∙ ap (λ (k : ℕ). take k (drop 8 a)) (add-sub_cancel_left 8 (get_or a 0 0 * 4)) in
+        let l : length p ≡ get_or a 0 0 * 4 = ap length q ∙ length-take-le (get_or a 0 0 * 4) (drop 8 a) (simp length-drop (omega arith)) in
+        let n : length p / 4 ≡ get_or a 0 0 = omega arith in
+        rw (n, q)
 
-    pub rows_end : x ≡ true → (y : Bool)
-        → y ≡ buffer_tests (take (8 + get_or a 0 0 * 4 + get_or a 1 0 * 72 - (8 + get_or a 0 0 * 4)) (drop (8 + get_or a 0 0 * 4) a)) → y ≡ rows_fit a
-    rows_end t y f =
-        f
-        ∙ ap (λ (k : ℕ). buffer_tests (take k (drop (8 + get_or a 0 0 * 4) a))) (add-sub_cancel_left (8 + get_or a 0 0 * 4) (get_or a 1 0 * 72))
-        ∙ sym (rows_is ∙ ap (λ (b : Bool). b && buffer_tests (buffer_part a)) t)
+    pub buffer_rows : (b : List ℕ) → b ≡ take (length a - (8 + get_or a 0 0 * 4)) (drop (8 + get_or a 0 0 * 4) a)
+        → first_chunks 72 (length b / 72) b ≡ first_chunks 72 (get_or a 1 0) (buffer_part a)
+    buffer_rows b e =
+        let k : length a - (8 + get_or a 0 0 * 4) ≡ get_or a 1 0 * 72 = omega arith in
+        let q : b ≡ buffer_part a = e ∙ ap (λ (i : ℕ). take i (drop (8 + get_or a 0 0 * 4) a)) k in
+        let l : length b ≡ get_or a 1 0 * 72 = ap length q ∙ length-take-le (get_or a 1 0 * 72) (drop (8 + get_or a 0 0 * 4) a) (simp length-drop (omega arith)) in
+        let n : length b / 72 ≡ get_or a 1 0 = omega arith in
+        rw (n, q)

@@ -1,14 +1,18 @@
 -- What the tests of the buffers among each other come to, over plain values. Assumes nothing.
 use mathlib.Core.Path.{◌≡◌, refl, sym, ap, ◌∙◌}
-use mathlib.Core.List.{List, [], ◌∷◌, ◌++◌}
-use mathlib.Core.Bool.{Bool, true, false, cond, false≢true, ◌&&◌, ◌||◌, and-false, or-false, or_assoc, and-eq-true_iff}
-use Prim.Native.Nat.{ℕ, zero, suc, ◌*◌, ◌≤◌, ◌<◌}
-use native.Mathlib.Nat.{add-zero, not-suc-le-zero}
+use mathlib.Core.List.{List, [], ◌∷◌, ◌++◌, map}
+use mathlib.Core.Bool.{Bool, true, false, cond, false≢true, not, ◌&&◌, ◌||◌, and-false, or-false, and-eq-true_iff}
+use Prim.Native.Nat.{ℕ, zero, suc, ◌+◌, ◌≤◌, ◌<◌}
+use native.Mathlib.Nat.{not-suc-le-zero}
+use native.Mathlib.Numerals.{add-one}
 use native.Mathlib.Omega.{arith}
-use lib.ListN.{length, get_or, take, drop, length-map, get_or-map, get_or-append}
-use lib.Seq.{get_or-take, get_or-drop}
+use lib.ListN.{length, get_or, take, drop, drop_of_length-le, get_or-map}
+use lib.Seq.{drop-cons}
 use lib.Dec.{eqb, leb, ltb}
 use borrow.Author.Tests.{eq-eqb, ne_eqb, ltb-true, leb-true}
+use Rattle.std.proofs.lemmas.List.{map-append, get_or_past}
+use Rattle.std.specs.Simd.{first_chunks}
+use Rattle.std.specs.List.{list_all, list_any}
 use Rattle.buffer.specs.declared.Lane.{Lane}
 use Rattle.buffer.specs.declared.Lane.TheVariants.{Zero, One}
 use Rattle.buffer.specs.declared.StartSplit.{StartSplit}
@@ -19,11 +23,10 @@ use Rattle.buffer.specs.Same.{same_key}
 use Rattle.buffer.specs.Key.{key_of, same_lane}
 use Rattle.buffer.specs.Buffer.{vacant, is_pending, active_in}
 use Rattle.numbers.specs.Named.{result_from}
-use Rattle.translator.proofs.Lists.{four}
-use Rattle.area_check.specs.Rows.{parts, every}
+use Rattle.area_check.specs.Rows.{parts}
 use Rattle.translator.specs.Slots.{slots_in}
-use Rattle.area_check.specs.Read.{lane_in, filled_by, crowded, held_split, slot_named, slot_of, buffer_of, no_buffers, buffers_of, clash, clashing, runs}
-use Rattle.area_check.proofs.Rows.{All, parts_length, parts_at, row_spare, row_long}
+use Rattle.area_check.specs.Read.{lane_in, filled_by, held_split, slot_named, slot_of, buffer_of, no_buffers, buffers_of, clash, clash_any, clashing, runs}
+use Rattle.area_check.proofs.Rows.{All, all_drop}
 use Rattle.area_check.proofs.Parts.{three}
 
 -- ---- two buffers
@@ -79,12 +82,22 @@ module _ (x y : List ℕ) where
       (three (Clash 3) (or-false key) (or-false key) (or-false key) (get_or y 0 0) v.0 v.1)
       (get_or x 0 0) u.0 u.1
 
+  pub clash_is : ((leb 1 (get_or x 0 0) && ltb (get_or x 0 0) 4) && (leb 1 (get_or y 0 0) && ltb (get_or y 0 0) 4))
+      && (key || (eqb (get_or x 0 0) 1 && (eqb (get_or y 0 0) 1 && eqb (get_or y 6 0) (get_or x 6 0))))
+      ≡ clash (slot_of x) (slot_of y)
+  clash_is = go (leb 1 (get_or x 0 0) && ltb (get_or x 0 0) 4) refl (leb 1 (get_or y 0 0) && ltb (get_or y 0 0) 4) refl
+    where
+      go : (a : Bool) → leb 1 (get_or x 0 0) && ltb (get_or x 0 0) 4 ≡ a → (b : Bool) → leb 1 (get_or y 0 0) && ltb (get_or y 0 0) 4 ≡ b
+          → (a && b) && (key || (eqb (get_or x 0 0) 1 && (eqb (get_or y 0 0) 1 && eqb (get_or y 6 0) (get_or x 6 0)))) ≡ clash (slot_of x) (slot_of y)
+      go true p true q = clash_both p q
+      go true p false q = clash_second q
+      go false p b q = clash_first p
+
 -- ---- pending or ready under a key of a lane
 
-pub filled_is : (z : Lane) (l : List ℕ) {r e s : Bool} {w : Lane} → r ≡ (e && s) → e ≡ (eqb (get_or l 0 0) 1 || eqb (get_or l 0 0) 2) → s ≡ same_lane w z
-    → w ≡ lane_in (get_or l 3 0) → r ≡ filled_by z l
+pub filled_is : (z : Lane) (l : List ℕ) → ((eqb (get_or l 0 0) 1 || eqb (get_or l 0 0) 2) && same_lane (lane_in (get_or l 3 0)) z) ≡ filled_by z l
 unfolding filled_by slot_of held_split
-filled_is z l a b c d = rw (a, b, c, d) (go (held_split l) (eqb (get_or l 0 0) 1) (eqb (get_or l 0 0) 2) (eqb (get_or l 0 0) 3))
+filled_is z l = go (held_split l) (eqb (get_or l 0 0) 1) (eqb (get_or l 0 0) 2) (eqb (get_or l 0 0) 3)
   where
     go : (s : StartSplit) (x y w : Bool)
         → ((x || y) && same_lane s.lane z) ≡ active_in z (cond x (Pending s (get_or l 6 0)) (cond y (Ready s (result_from (get_or l 6 0))) (cond w (Old s (result_from (get_or l 6 0))) Empty)))
@@ -94,26 +107,69 @@ filled_is z l a b c d = rw (a, b, c, d) (go (held_split l) (eqb (get_or l 0 0) 1
     go s false false false = refl
 
 -- a lane that holds every buffer holds the first
-pub first_crowds : (n : ℕ) (l : List ℕ) → 2 ≤ n → every (filled_by (lane_in (get_or l 3 0))) 72 n l ≡ crowded n l
-unfolding every
-first_crowds zero l many = absurd (not-suc-le-zero many)
-first_crowds (suc n) l many = go (lane_in (get_or l 3 0)) (ap lane_in (get_or-take 72 l 3 0 (omega arith)))
+pub first_crowds : (rows : List (List ℕ)) → 0 < length rows
+    → list_all (filled_by (lane_in (get_or (get_or rows 0 []) 3 0))) rows ≡ (list_all (filled_by Zero) rows || list_all (filled_by One) rows)
+first_crowds [] many = absurd (not-suc-le-zero many)
+first_crowds (l ∷ rows) many = go (lane_in (get_or l 3 0)) refl
   where
-    first : (z : Lane) → ((eqb (get_or (take 72 l) 0 0) 1 || eqb (get_or (take 72 l) 0 0) 2) && same_lane (lane_in (get_or (take 72 l) 3 0)) z) ≡ filled_by z (take 72 l)
-    first z = filled_is z (take 72 l) refl refl refl refl
+    none : (y z : Lane) → lane_in (get_or l 3 0) ≡ y → same_lane y z ≡ false → (filled_by z l && list_all (filled_by z) rows) ≡ false
+    none y z e d = rw (sym (filled_is z l), e, d, and-false (eqb (get_or l 0 0) 1 || eqb (get_or l 0 0) 2))
 
-    none : (y z : Lane) → lane_in (get_or (take 72 l) 3 0) ≡ y → same_lane y z ≡ false → (filled_by z (take 72 l) && every (filled_by z) 72 n (drop 72 l)) ≡ false
-    none y z e d = rw (sym (first z), e, d, and-false (eqb (get_or (take 72 l) 0 0) 1 || eqb (get_or (take 72 l) 0 0) 2))
-
-    go : (z : Lane) → lane_in (get_or (take 72 l) 3 0) ≡ z → (filled_by z (take 72 l) && every (filled_by z) 72 n (drop 72 l)) ≡ crowded (suc n) l
+    go : (z : Lane) → lane_in (get_or l 3 0) ≡ z
+        → list_all (filled_by z) (l ∷ rows) ≡ (list_all (filled_by Zero) (l ∷ rows) || list_all (filled_by One) (l ∷ rows))
     go Zero e = rw (none Zero One e refl) (sym (or-false _))
     go One e = rw (none One Zero e refl)
 
--- ---- the slots of a row of buffers
+-- ---- no two clash, as the loop goes on
 
-slot_of_buffer : (l : List ℕ) → (buffer_of l).slot ≡ slot_of l
-unfolding buffer_of
-slot_of_buffer l = refl
+pub any_is : (x : Slot) (rows : List (List ℕ)) → list_any (λ y. clash x (slot_of y)) rows ≡ clash_any x (map slot_of rows)
+any_is x [] = refl
+any_is x (y ∷ rows) = ap (λ (b : Bool). clash x (slot_of y) || b) (any_is x rows)
+
+pub clashing_step : (rows : List (List ℕ)) (i : ℕ) → i < length rows
+    → clashing (map slot_of (drop i rows)) ≡ list_any (λ y. clash (slot_of (get_or rows i [])) (slot_of y)) (drop (i + 1) rows) || clashing (map slot_of (drop (i + 1) rows))
+unfolding clashing
+clashing_step rows i h =
+    ap (λ (r : List (List ℕ)). clashing (map slot_of r)) (drop-cons rows i [] h ∙ ap (λ (n : ℕ). get_or rows i [] ∷ drop n rows) (sym (add-one i)))
+    ∙ ap (λ (b : Bool). b || clashing (map slot_of (drop (i + 1) rows))) (sym (any_is (slot_of (get_or rows i [])) (drop (i + 1) rows)))
+
+pub clashing_end : (rows : List (List ℕ)) (i : ℕ) → length rows ≤ i → clashing (map slot_of (drop i rows)) ≡ false
+unfolding clashing
+clashing_end rows i h = ap (λ (r : List (List ℕ)). clashing (map slot_of r)) (drop_of_length-le rows h)
+
+-- ---- the running one
+
+pending : (s : ℕ) (x : StartSplit) (last : ℕ) → is_pending (slot_named s x last) ≡ eqb s 1
+pending s x last = go (eqb s 1) (eqb s 2) (eqb s 3)
+  where
+    go : (a b c : Bool) → is_pending (cond a (Pending x last) (cond b (Ready x (result_from last)) (cond c (Old x (result_from last)) Empty))) ≡ a
+    go true b c = refl
+    go false true c = refl
+    go false false true = refl
+    go false false false = refl
+
+pub runs_is : (rows : List (List ℕ)) (low i : ℕ) → (not (eqb low 1) || eqb (get_or (get_or rows i []) 0 0) 1) ≡ runs (map slot_of rows) low i
+unfolding runs slot_of
+runs_is rows low i = go (eqb low 1)
+  where
+    here : is_pending (get_or (map slot_of rows) i Empty) ≡ eqb (get_or (get_or rows i []) 0 0) 1
+    here =
+        let l : List ℕ = get_or rows i [] in
+        ap is_pending (get_or-map slot_of rows i []) ∙ pending (get_or l 0 0) (held_split l) (get_or l 6 0)
+
+    go : (b : Bool) → (not b || eqb (get_or (get_or rows i []) 0 0) 1) ≡ cond b (is_pending (get_or (map slot_of rows) i Empty)) true
+    go true = sym here
+    go false = refl
+
+pub runs_none : (rows : List (List ℕ)) (low i : ℕ) → low ≡ 1 → length rows ≤ i → false ≡ runs (map slot_of rows) low i
+runs_none rows low i e h = rw (eq-eqb low 1 e, get_or_past rows i [] h) at (runs_is rows low i)
+
+-- ---- the slots of all four buffers: those that aren't in use are empty
+
+slots_rows : (n : ℕ) (l : List ℕ) → map (λ (b : Buffer). b.slot) (parts buffer_of 72 n l) ≡ map slot_of (first_chunks 72 n l)
+unfolding parts buffer_of
+slots_rows zero l = refl
+slots_rows (suc n) l = ap (λ (r : List Slot). slot_of (take 72 l) ∷ r) (slots_rows n (drop 72 l))
 
 pub vacant_buffers : All (λ (b : Buffer). b ≡ vacant) no_buffers
 unfolding All no_buffers
@@ -123,103 +179,48 @@ pub four_long : length no_buffers ≡ 4
 unfolding no_buffers
 four_long = refl
 
+empties : (bs : List Buffer) → All (λ (b : Buffer). b ≡ vacant) bs → All (λ (s : Slot). s ≡ Empty) (slots_in bs)
+unfolding All
+empties [] h = tt
+empties (b ∷ bs) h = (ap (λ (x : Buffer). x.slot) h.0, empties bs h.1)
+
+slot_spare : (xs es : List Slot) → All (λ (s : Slot). s ≡ Empty) es → (i : ℕ) → get_or (xs ++ es) i Empty ≡ get_or xs i Empty
+unfolding All
+slot_spare [] [] h i = refl
+slot_spare [] (e ∷ es) h zero = h.0
+slot_spare [] (e ∷ es) h (suc i) = slot_spare [] es h.1 i
+slot_spare (x ∷ xs) es h zero = refl
+slot_spare (x ∷ xs) es h (suc i) = slot_spare xs es h i
+
+any_spare : (x : Slot) (ys es : List Slot) → All (λ (s : Slot). s ≡ Empty) es → clash_any x (ys ++ es) ≡ clash_any x ys
+unfolding All
+any_spare x [] [] h = refl
+any_spare x [] (e ∷ es) h = rw (h.0, clash_empty x) (any_spare x [] es h.1)
+any_spare x (y ∷ ys) es h = ap (λ (b : Bool). clash x y || b) (any_spare x ys es h)
+
+clashing_spare : (xs es : List Slot) → All (λ (s : Slot). s ≡ Empty) es → clashing (xs ++ es) ≡ clashing xs
+unfolding All clashing
+clashing_spare [] [] h = refl
+clashing_spare [] (e ∷ es) h = ap (λ (b : Bool). b || clashing es) (ap (λ (s : Slot). clash_any s es) h.0 ∙ any_spare Empty [] es h.1) ∙ clashing_spare [] es h.1
+clashing_spare (x ∷ xs) es h =
+    ap (λ (b : Bool). b || clashing (xs ++ es)) (any_spare x xs es h) ∙ ap (λ (b : Bool). clash_any x xs || b) (clashing_spare xs es h)
+
 module _ (n : ℕ) (l : List ℕ) where
-  abbrev slots : List Slot
-  slots = slots_in (buffers_of n l)
+  abbrev spare : List Slot
+  spare = slots_in (drop n no_buffers)
 
-  -- the slot of the i-th buffer is read from the i-th part
-  slot_part : (i : ℕ) → i < n → get_or slots i Empty ≡ slot_of (take 72 (drop (i * 72) l))
+  none : All (λ (s : Slot). s ≡ Empty) spare
+  none = empties (drop n no_buffers) (all_drop (λ (b : Buffer). b ≡ vacant) n no_buffers vacant_buffers)
+
+  slots_are : slots_in (buffers_of n l) ≡ map slot_of (first_chunks 72 n l) ++ spare
   unfolding buffers_of
-  slot_part i h =
-      let f : Buffer → Slot = λ b. b.slot in
-      let k : i < length (parts buffer_of 72 n l) = omega (arith, parts_length buffer_of 72 n l) in
-      get_or-map f (parts buffer_of 72 n l ++ drop n no_buffers) i vacant
-      ∙ ap f (get_or-append (parts buffer_of 72 n l) (drop n no_buffers) vacant i k ∙ parts_at buffer_of 72 n i l vacant h)
-      ∙ slot_of_buffer (take 72 (drop (i * 72) l))
+  slots_are = map-append (λ (b : Buffer). b.slot) (parts buffer_of 72 n l) (drop n no_buffers) ∙ ap (λ (r : List Slot). r ++ spare) (slots_rows n l)
 
-  -- behind the last buffer all are empty
-  slot_spare : (i : ℕ) → n ≤ i → get_or slots i Empty ≡ Empty
-  unfolding buffers_of
-  slot_spare i h =
-      let f : Buffer → Slot = λ b. b.slot in
-      get_or-map f (parts buffer_of 72 n l ++ drop n no_buffers) i vacant
-      ∙ ap f (row_spare vacant no_buffers vacant_buffers n (parts buffer_of 72 n l) (parts_length buffer_of 72 n l) i h)
+  pub clashing_rows : clashing (map slot_of (first_chunks 72 n l)) ≡ clashing (slots_in (buffers_of n l))
+  clashing_rows = sym (ap clashing slots_are ∙ clashing_spare (map slot_of (first_chunks 72 n l)) spare none)
 
-  slots_long : n ≤ 4 → length slots ≡ 4
-  unfolding buffers_of
-  slots_long h =
-      length-map (parts buffer_of 72 n l ++ drop n no_buffers) (λ (b : Buffer). b.slot)
-      ∙ row_long vacant no_buffers vacant_buffers n (parts buffer_of 72 n l) (parts_length buffer_of 72 n l) 4 four_long h
-
-  -- ---- no two clash
-
-  abbrev part : ℕ → Slot
-  part i = slot_of (take 72 (drop (i * 72) l))
-
-  abbrev pair : ℕ → ℕ → Bool
-  pair i j = clash (part i) (part j)
-
-  clashing_is : (a b c d : Slot) → n ≤ 4 → get_or slots 0 Empty ≡ a → get_or slots 1 Empty ≡ b → get_or slots 2 Empty ≡ c → get_or slots 3 Empty ≡ d
-      → clashing slots ≡ clashing (a ∷ b ∷ c ∷ d ∷ [])
-  clashing_is a b c d h p q r s = ap clashing (four Empty slots (slots_long h)) ∙ rw (p, q, r, s)
-
-  module _ (two : 2 ≤ n) where
-    first : get_or slots 0 Empty ≡ part 0
-    first = slot_part 0 (omega arith)
-
-    second : get_or slots 1 Empty ≡ part 1
-    second = slot_part 1 (omega arith)
-
-    pub clashing_two : n < 3 → pair 0 1 ≡ clashing slots
-    unfolding clashing
-    clashing_two h =
-        sym
-        (clashing_is (part 0) (part 1) Empty Empty (omega arith) first second (slot_spare 2 (omega arith)) (slot_spare 3 (omega arith))
-        ∙ simp (clash_empty, or-false))
-
-    pub clashing_three : 3 ≤ n → n < 4 → pair 0 1 || (pair 0 2 || pair 1 2) ≡ clashing slots
-    unfolding clashing
-    clashing_three g h =
-        sym
-        (clashing_is (part 0) (part 1) (part 2) Empty (omega arith) first second (slot_part 2 (omega arith)) (slot_spare 3 (omega arith))
-        ∙ simp (clash_empty, or-false, or_assoc))
-
-    pub clashing_four : 4 ≤ n → n ≤ 4 → (pair 0 1 || (pair 0 2 || pair 1 2)) || (pair 0 3 || (pair 1 3 || pair 2 3)) ≡ clashing slots
-    unfolding clashing
-    clashing_four g h =
-        sym
-        (clashing_is (part 0) (part 1) (part 2) (part 3) h first second (slot_part 2 (omega arith)) (slot_part 3 (omega arith))
-        ∙ simp (or-false, or_assoc, swap (pair 0 3) (pair 1 2) (pair 1 3 || pair 2 3)))
-      where
-        swap : (a b c : Bool) → a || (b || c) ≡ b || (a || c)
-        swap true true c = refl
-        swap true false c = refl
-        swap false true c = refl
-        swap false false c = refl
-
-  -- ---- the running one
-
-  pending : (s : ℕ) (x : StartSplit) (last : ℕ) → is_pending (slot_named s x last) ≡ eqb s 1
-  pending s x last = go (eqb s 1) (eqb s 2) (eqb s 3)
-    where
-      go : (a b c : Bool) → is_pending (cond a (Pending x last) (cond b (Ready x (result_from last)) (cond c (Old x (result_from last)) Empty))) ≡ a
-      go true b c = refl
-      go false true c = refl
-      go false false true = refl
-      go false false false = refl
-
-  pub runs_at : (low i : ℕ) → low ≡ 1 → i < n → eqb (get_or l (i * 72) 0) 1 ≡ runs slots low i
-  unfolding runs slot_of
-  runs_at low i e h =
-      let b : get_or (take 72 (drop (i * 72) l)) 0 0 ≡ get_or l (i * 72) 0 =
-      get_or-take 72 (drop (i * 72) l) 0 0 (omega arith) ∙ get_or-drop (i * 72) l 0 0 ∙ ap (λ (k : ℕ). get_or l k 0) (add-zero (i * 72)) in
-      rw (eq-eqb low 1 e, slot_part i h)
-      (sym (pending (get_or (take 72 (drop (i * 72) l)) 0 0) (held_split (take 72 (drop (i * 72) l))) (get_or (take 72 (drop (i * 72) l)) 6 0) ∙ ap (λ (k : ℕ). eqb k 1) b))
-
-  pub runs_none : (low i : ℕ) → low ≡ 1 → n ≤ i → false ≡ runs slots low i
+  pub runs_rows : (low i : ℕ) → runs (map slot_of (first_chunks 72 n l)) low i ≡ runs (slots_in (buffers_of n l)) low i
   unfolding runs
-  runs_none low i e h = rw (eq-eqb low 1 e, slot_spare i h)
-
-  pub runs_not : (low i : ℕ) → ¬ (low ≡ 1) → true ≡ runs slots low i
-  unfolding runs
-  runs_not low i d = rw (ne_eqb low 1 d)
+  runs_rows low i =
+      ap (λ (s : Slot). cond (eqb low 1) (is_pending s) true)
+      (sym (ap (λ (r : List Slot). get_or r i Empty) slots_are ∙ slot_spare (map slot_of (first_chunks 72 n l)) spare none i))

@@ -1,15 +1,16 @@
 // The test of a lent byte area: whether its bytes are the written form of a valid hub. No hub is built.
 #![tactic(auto)]
 
-ghost use Rattle.std.specs.Prelude.{◌≡◌, ◌&&◌, ◌||◌, not, cond, ◌+◌, ◌*◌, ◌^◌, ◌≤◌, eqb, leb, ltb, length, get_or, take, drop};
+ghost use Rattle.std.specs.Prelude.{◌≡◌, ◌&&◌, ◌||◌, not, cond, ◌+◌, ◌*◌, ◌^◌, ◌<◌, ◌≤◌, eqb, leb, ltb, length, get_or, drop, map};
+ghost use Rattle.std.specs.List.{list_all, list_any};
+ghost use Rattle.buffer.specs.declared.Lane.TheVariants.{Zero, One};
 ghost use Rattle.buffer.specs.Same.{same_key};
-ghost use Rattle.buffer.specs.Key.{direction_of, key_of};
+ghost use Rattle.buffer.specs.Key.{direction_of, key_of, same_lane};
 ghost use Rattle.buffer.specs.Lengths.{type_fits, start_length, result_length};
 ghost use Rattle.numbers.specs.Named.{is_pid, pid_from, is_type, type_from, is_result, result_from};
 ghost use Rattle.hub.specs.Hub.{new_fits};
-ghost use Rattle.area_check.specs.Rows.{every, blank};
-ghost use Rattle.translator.specs.Slots.{slots_in};
-ghost use Rattle.area_check.specs.Read.{lane_in, held_split, slot_of, buffers_of, state_fits, port_fits, buffer_fits, clash, clashing, filled_by, crowded, runs, low_fits, head_fits, sized, rows_fit, accepts};
+ghost use Rattle.area_check.specs.Rows.{blank};
+ghost use Rattle.area_check.specs.Read.{lane_in, held_split, slot_of, state_fits, port_fits, buffer_fits, clash, clashing, filled_by, runs, low_fits, head_fits, sized, rows_fit, accepts};
 
 use buffer::{BufferCount, DeviceAddress, Direction, Key, Lane};
 use port::PortCount;
@@ -19,13 +20,7 @@ use port::PortCount;
 fn within(v: u8, speeds: u8, t: u8, end: u8, agrees: bool) -> bool
     ensures { result ≡ (ltb v speeds && ltb t end) && agrees }
 {
-    if speeds <= v {
-        return false;
-    }
-    if end <= t {
-        return false;
-    }
-    agrees
+    v < speeds && t < end && agrees
 }
 
 // Which speeds and ticks a state goes with. Timers are below their ends.
@@ -35,43 +30,25 @@ fn state_fits(configured: bool, s: u8, v: u8, t: u8) -> bool
 {
     match s {
         0 => within(v, 1, t, 1, !configured),
-        1 => within(v, 1, t, 1, configured),
-        2 => within(v, 1, t, 1, configured),
-        3 => within(v, 3, t, 1, configured),
+        1 | 2 => within(v, 1, t, 1, configured),
+        3 | 5 | 6 => within(v, 3, t, 1, configured),
         4 => within(v, 3, t, 15, configured),
-        5 => within(v, 3, t, 1, configured),
-        6 => within(v, 3, t, 1, configured),
         7 => within(v, 3, t, 22, configured),
         _ => false,
     }
 }
 
 #[tactic(auto, unfolding(crate::specs::Read::port_fits))]
-fn port_fits(b: &[u8], configured: bool) -> bool
-    requires { length b.now ≡ 4 }
+fn port_fits(b: &[u8; 4], configured: bool) -> bool
     ensures { result ≡ port_fits configured b.now }
 {
-    if 64 <= b[3] {
-        return false;
-    }
-    state_fits(configured, b[0], b[1], b[2])
+    state_fits(configured, b[0], b[1], b[2]) && b[3] < 64
 }
 
-#[tactic(auto, unfolding(crate::specs::Rows::every))]
-fn ports_fit(b: &[u8], n: usize, configured: bool) -> bool
-    requires { (n ≤ 7) × (length b.now ≡ n * 4) }
-    ensures { result ≡ every (port_fits configured) 4 n b.now }
+fn ports_fit(rows: &[[u8; 4]], configured: bool) -> bool
+    ensures { result ≡ list_all (port_fits configured) rows.now }
 {
-    let mut i: usize = 0;
-    while i < n {
-        let at = i * 4;
-        let end = at + 4;
-        if !port_fits(&b[at..end], configured) {
-            return false;
-        }
-        i += 1;
-    }
-    true
+    rows.iter().all(|b| port_fits(b, configured))
 }
 
 // ---- one buffer, 72 bytes
@@ -80,15 +57,11 @@ fn ports_fit(b: &[u8], n: usize, configured: bool) -> bool
 pub fn blank_from(b: &[u8], start: usize) -> bool
     ensures { result ≡ blank (drop start b.now) }
 {
-    let mut ok = true;
-    let mut i: usize = start;
-    while i < b.len() {
-        if b[i] != 0 {
-            ok = false;
-        }
-        i += 1;
+    let mut all = 0;
+    for x in &b[start.min(b.len())..] {
+        all |= *x;
     }
-    ok
+    all == 0
 }
 
 // A start-split's PID and transfer type. SETUP is control.
@@ -96,8 +69,7 @@ fn names_fit(p: u8, t: u8) -> bool
     ensures { result ≡ is_pid p && (is_type t && type_fits (pid_from p) (type_from t)) }
 {
     match p {
-        1 => bools::either(t == 0, t == 2),
-        9 => bools::either(t == 0, t == 2),
+        1 | 9 => matches!(t, 0 | 2),
         13 => t == 0,
         _ => false,
     }
@@ -107,7 +79,7 @@ fn names_fit(p: u8, t: u8) -> bool
 fn split_fits(f: u8, a: u8, e: u8) -> bool
     ensures { result ≡ ltb f 8 && (ltb a 128 && ltb e 16) }
 {
-    bools::both(f < 8, bools::both(a < 128, e < 16))
+    f < 8 && a < 128 && e < 16
 }
 
 fn start_length(p: u8, len: u8) -> bool
@@ -126,12 +98,8 @@ fn result_fits(last: u8, len: u8) -> bool
     ensures { result ≡ is_result last && result_length (result_from last) len }
 {
     match last {
-        0 => len == 0,
-        2 => len == 0,
-        10 => len == 0,
-        14 => len == 0,
-        3 => len <= 64,
-        11 => len <= 64,
+        0 | 2 | 10 | 14 => len == 0,
+        3 | 11 => len <= 64,
         _ => false,
     }
 }
@@ -142,69 +110,43 @@ fn held_fits(s: u8, p: u8, last: u8, len: u8) -> bool
 {
     match s {
         1 => start_length(p, len),
-        2 => result_fits(last, len),
-        3 => result_fits(last, len),
+        2 | 3 => result_fits(last, len),
         _ => false,
     }
 }
 
-fn behind(len: u8) -> usize
-    ensures { result ≡ 8 + len }
-{
-    8 + len as usize
-}
-
-fn buffer_fits(b: &[u8]) -> bool
-    requires { length b.now ≡ 72 }
+#[tactic(auto, using(crate::proofs::Parts::empty_end))]
+fn buffer_fits(b: &[u8; 72]) -> bool
     ensures { result ≡ buffer_fits b.now }
 {
     if b[0] == 0 {
         return blank_from(b, 1);
     }
-    if !names_fit(b[1], b[2]) {
-        return false;
-    }
-    if !split_fits(b[3], b[4], b[5]) {
-        return false;
-    }
-    if !held_fits(b[0], b[1], b[6], b[7]) {
-        return false;
-    }
-    let end = behind(b[7]);
-    blank_from(b, end)
+    names_fit(b[1], b[2])
+        && split_fits(b[3], b[4], b[5])
+        && held_fits(b[0], b[1], b[6], b[7])
+        && blank_from(b, 8 + b[7] as usize)
 }
 
-#[tactic(auto, unfolding(crate::specs::Rows::every))]
-fn buffers_fit(b: &[u8], n: usize) -> bool
-    requires { (n ≤ 4) × (length b.now ≡ n * 72) }
-    ensures { result ≡ every buffer_fits 72 n b.now }
+fn buffers_fit(rows: &[[u8; 72]]) -> bool
+    ensures { result ≡ list_all buffer_fits rows.now }
 {
-    let mut i: usize = 0;
-    while i < n {
-        let at = i * 72;
-        let end = at + 72;
-        if !buffer_fits(&b[at..end]) {
-            return false;
-        }
-        i += 1;
-    }
-    true
+    rows.iter().all(|b| buffer_fits(b))
 }
 
 // ---- the buffers among each other
 
-fn is_held(s: u8) -> bool
-    ensures { result ≡ leb 1 s && ltb s 4 }
+fn both_held(s: u8, t: u8) -> bool
+    ensures { result ≡ (leb 1 s && ltb s 4) && (leb 1 t && ltb t 4) }
 {
-    bools::both(1 <= s, s < 4)
+    (1..4).contains(&s) && (1..4).contains(&t)
 }
 
 // The lane of a start-split with these flags.
 pub fn lane_in(f: u8) -> Lane
     ensures { result ≡ lane_in f }
 {
-    let quarter = f / 2 / 2;
-    if quarter % 2 == 1 {
+    if f / 2 / 2 % 2 == 1 {
         Lane::One
     } else {
         Lane::Zero
@@ -214,155 +156,104 @@ pub fn lane_in(f: u8) -> Lane
 fn direction_in(p: u8) -> Direction
     ensures { result ≡ direction_of (pid_from p) }
 {
-    let pid = numbers::pid_of(p as u32);
-    pid.direction()
+    numbers::pid_of(p as u32).direction()
 }
 
 // The key that a buffer is held under.
 #[tactic(auto, unfolding(crate::specs::Read::held_split))]
-fn held_key(b: &[u8]) -> Key
-    requires { length b.now ≡ 72 }
+fn held_key(b: &[u8; 72]) -> Key
     ensures { result ≡ key_of (held_split b.now) }
 {
     Key::new(lane_in(b[3]), DeviceAddress(b[4]), b[5], direction_in(b[1]))
 }
 
-fn same_key(x: &[u8], y: &[u8]) -> bool
-    requires { (length x.now ≡ 72) × (length y.now ≡ 72) }
+fn same_key(x: &[u8; 72], y: &[u8; 72]) -> bool
     ensures { result ≡ same_key (key_of (held_split x.now)) (key_of (held_split y.now)) }
 {
-    let key = held_key(x);
-    key.same(held_key(y))
+    held_key(x).same(held_key(y))
 }
 
 // Whether two buffers are pending at one place.
 fn same_place(s: u8, t: u8, p: u8, q: u8) -> bool
     ensures { result ≡ eqb s 1 && (eqb t 1 && eqb p q) }
 {
-    if s != 1 {
-        return false;
-    }
-    bools::both(t == 1, p == q)
+    s == 1 && t == 1 && p == q
 }
 
 // Whether two buffers have one key, or one place.
-fn clash(x: &[u8], y: &[u8]) -> bool
-    requires { (length x.now ≡ 72) × (length y.now ≡ 72) }
+fn clash(x: &[u8; 72], y: &[u8; 72]) -> bool
     ensures { result ≡ clash (slot_of x.now) (slot_of y.now) }
 {
-    if !is_held(x[0]) {
-        return false;
-    }
-    if !is_held(y[0]) {
-        return false;
-    }
-    if same_key(y, x) {
-        return true;
-    }
-    same_place(x[0], y[0], y[6], x[6])
+    both_held(x[0], y[0]) && (same_key(y, x) || same_place(x[0], y[0], y[6], x[6]))
 }
 
-fn pair_clashes(b: &[u8], i: usize, j: usize) -> bool
-    requires { (i * 72 + 72 ≤ length b.now) × (j * 72 + 72 ≤ length b.now) }
-    ensures { result ≡ clash (slot_of (take 72 (drop (i * 72) b.now))) (slot_of (take 72 (drop (j * 72) b.now))) }
+fn clashes(x: &[u8; 72], others: &[[u8; 72]]) -> bool
+    ensures { result ≡ list_any (λ y. clash (slot_of x.now) (slot_of y)) others.now }
 {
-    let at = i * 72;
-    let to = at + 72;
-    let from = j * 72;
-    let end = from + 72;
-    clash(&b[at..to], &b[from..end])
+    others.iter().any(|y| clash(x, y))
 }
 
-fn clashing(b: &[u8], n: usize) -> bool
-    requires { (2 ≤ n) × (n ≤ 4) × (length b.now ≡ n * 72) }
-    ensures { result ≡ clashing (slots_in (buffers_of n b.now)) }
+#[tactic(auto, using(crate::proofs::Ties::clashing_end))]
+fn clashing(rows: &[[u8; 72]]) -> bool
+    ensures { result ≡ clashing (map slot_of rows.now) }
 {
-    let two = pair_clashes(b, 0, 1);
-    if n < 3 {
-        return two;
+    for (i, x) in rows.iter().enumerate() {
+        if clashes(x, &rows[i + 1..]) {
+            return true;
+        }
     }
-    let three = bools::either(
-        two,
-        bools::either(pair_clashes(b, 0, 2), pair_clashes(b, 1, 2)),
-    );
-    if n < 4 {
-        return three;
-    }
-    bools::either(
-        three,
-        bools::either(
-            pair_clashes(b, 0, 3),
-            bools::either(pair_clashes(b, 1, 3), pair_clashes(b, 2, 3)),
-        ),
-    )
+    false
+}
+
+fn is_filled(s: u8) -> bool
+    ensures { result ≡ (eqb s 1 || eqb s 2) }
+{
+    matches!(s, 1 | 2)
+}
+
+fn is_from(f: u8, lane: Lane) -> bool
+    ensures { result ≡ same_lane (lane_in f) lane }
+{
+    lane_in(f) == lane
 }
 
 // Whether a buffer is pending or ready under a key of the lane.
-fn filled_by(b: &[u8], lane: Lane) -> bool
-    requires { length b.now ≡ 72 }
+fn filled_by(b: &[u8; 72], lane: Lane) -> bool
     ensures { result ≡ filled_by lane b.now }
 {
-    let held = lane_in(b[3]);
-    bools::both(bools::either(b[0] == 1, b[0] == 2), held.same(lane))
+    is_filled(b[0]) && is_from(b[3], lane)
 }
 
 // Whether the lane holds every buffer pending or ready.
-#[tactic(auto, unfolding(crate::specs::Rows::every))]
-fn filled(b: &[u8], n: usize, lane: Lane) -> bool
-    requires { (n ≤ 4) × (length b.now ≡ n * 72) }
-    ensures { result ≡ every (filled_by lane) 72 n b.now }
+fn filled(rows: &[[u8; 72]], lane: Lane) -> bool
+    ensures { result ≡ list_all (filled_by lane) rows.now }
 {
-    let mut i: usize = 0;
-    while i < n {
-        let at = i * 72;
-        let end = at + 72;
-        if !filled_by(&b[at..end], lane) {
-            return false;
-        }
-        i += 1;
-    }
-    true
+    rows.iter().all(|b| filled_by(b, lane))
 }
 
 // A lane that holds every buffer holds the first, so that only its lane is looked at.
-fn crowded(b: &[u8], n: usize) -> bool
-    requires { (2 ≤ n) × (n ≤ 4) × (length b.now ≡ n * 72) }
-    ensures { result ≡ crowded n b.now }
+#[tactic(auto, using(crate::proofs::Ties::first_crowds))]
+fn crowded(rows: &[[u8; 72]]) -> bool
+    requires { 0 < length rows.now }
+    ensures { result ≡ (list_all (filled_by Zero) rows.now || list_all (filled_by One) rows.now) }
 {
-    filled(b, n, lane_in(b[3]))
+    filled(rows, lane_in(rows[0][3]))
 }
 
 // A running buffer is pending.
-fn runs(b: &[u8], n: usize, low: u8, running: u8) -> bool
-    requires { (n ≤ 4) × (length b.now ≡ n * 72) }
-    ensures { result ≡ runs (slots_in (buffers_of n b.now)) low running }
+fn runs(rows: &[[u8; 72]], low: u8, running: u8) -> bool
+    ensures { result ≡ runs (map slot_of rows.now) low running }
 {
-    if low == 1 {
-        let i = running as usize;
-        if i < n {
-            let at = i * 72;
-            return b[at] == 1;
-        }
-        return false;
-    }
-    true
+    let i = running as usize;
+    low != 1 || i < rows.len() && rows[i][0] == 1
 }
 
 // Each buffer for itself, then all among each other.
-fn buffers_agree(b: &[u8], n: usize, low: u8, running: u8) -> bool
-    requires { (2 ≤ n) × (n ≤ 4) × (length b.now ≡ n * 72) }
-    ensures { result ≡ every buffer_fits 72 n b.now && (not (clashing (slots_in (buffers_of n b.now))) && (not (crowded n b.now) && runs (slots_in (buffers_of n b.now)) low running)) }
+fn buffers_agree(rows: &[[u8; 72]], low: u8, running: u8) -> bool
+    requires { 0 < length rows.now }
+    ensures { result ≡ list_all buffer_fits rows.now && (not (clashing (map slot_of rows.now)) && (not (list_all (filled_by Zero) rows.now || list_all (filled_by One) rows.now) && runs (map slot_of rows.now) low running)) }
 {
-    if !buffers_fit(b, n) {
-        return false;
-    }
-    if clashing(b, n) {
-        return false;
-    }
-    if crowded(b, n) {
-        return false;
-    }
-    runs(b, n, low, running)
+    buffers_fit(rows) && !clashing(rows) && !crowded(rows) && runs(rows, low, running)
 }
 
 // ---- the hub
@@ -372,39 +263,23 @@ fn removable_fits(n: PortCount, removable: u8) -> bool
     requires { n.0 ≤ 7 }
     ensures { result ≡ ltb removable (2 ^ (n.0 + 1)) }
 {
-    let count = n.0;
-    match count {
-        0 => removable < 2,
-        1 => removable < 4,
-        2 => removable < 8,
-        3 => removable < 16,
-        4 => removable < 32,
-        5 => removable < 64,
-        6 => removable < 128,
-        _ => true,
-    }
+    u32::from(removable) < 1 << (n.0 + 1)
 }
 
 #[tactic(auto, unfolding(hub::specs::Hub::new_fits))]
 fn numbers_fit(n: PortCount, b: BufferCount, powergood: u8, current: u8, removable: u8) -> bool
     ensures { result ≡ new_fits n.0 b.0 powergood current removable }
 {
-    if 7 < n.0 {
-        return false;
-    }
-    bools::both(
-        bools::both(
-            bools::both(1 <= n.0, n.0 <= 7),
-            bools::both(2 <= b.0, b.0 <= 4),
-        ),
-        bools::both(removable % 2 == 0, removable_fits(n, removable)),
-    )
+    (1..=7).contains(&n.0)
+        && (2..=4).contains(&b.0)
+        && removable % 2 == 0
+        && removable_fits(n, removable)
 }
 
 fn low_fits(k: u8, n: u8) -> bool
     ensures { result ≡ low_fits k n }
 {
-    bools::either(k == 1, bools::both(k < 3, n == 0))
+    k == 1 || k < 3 && n == 0
 }
 
 #[tactic(auto, unfolding(crate::specs::Read::head_fits))]
@@ -412,16 +287,14 @@ fn head_fits(area: &[u8]) -> bool
     requires { 8 ≤ length area.now }
     ensures { result ≡ head_fits area.now }
 {
-    bools::both(
-        numbers_fit(
-            PortCount(area[0]),
-            BufferCount(area[1]),
-            area[2],
-            area[3],
-            area[4],
-        ),
-        bools::both(area[5] < 2, low_fits(area[6], area[7])),
-    )
+    numbers_fit(
+        PortCount(area[0]),
+        BufferCount(area[1]),
+        area[2],
+        area[3],
+        area[4],
+    ) && area[5] < 2
+        && low_fits(area[6], area[7])
 }
 
 fn size_of(n: PortCount, b: BufferCount) -> usize
@@ -435,31 +308,20 @@ fn size_of(n: PortCount, b: BufferCount) -> usize
 fn is_sized(area: &[u8]) -> bool
     ensures { result ≡ sized area.now }
 {
-    let size = area.len();
-    if size < 8 {
-        return false;
-    }
-    bools::both(
-        head_fits(area),
-        size == size_of(PortCount(area[0]), BufferCount(area[1])),
-    )
+    area.len() >= 8
+        && head_fits(area)
+        && area.len() == size_of(PortCount(area[0]), BufferCount(area[1]))
 }
 
 fn rows_fit(area: &[u8]) -> bool
     requires { (8 ≤ length area.now) × (get_or area.now 0 0 ≤ 7) × (2 ≤ get_or area.now 1 0) × (get_or area.now 1 0 ≤ 4) × (length area.now ≡ 8 + get_or area.now 0 0 * 4 + get_or area.now 1 0 * 72) }
     ensures { result ≡ rows_fit area.now }
 {
-    let n = area[0] as usize;
-    let m = area[1] as usize;
+    let mid = 8 + area[0] as usize * 4;
+    let (ports, _) = area[8..mid].as_chunks::<4>();
+    let (buffers, _) = area[mid..].as_chunks::<72>();
     let configured = area[5] == 1;
-    let low = area[6];
-    let running = area[7];
-    let mid = 8 + n * 4;
-    let end = mid + m * 72;
-    if !ports_fit(&area[8..mid], n, configured) {
-        return false;
-    }
-    buffers_agree(&area[mid..end], m, low, running)
+    ports_fit(ports, configured) && buffers_agree(buffers, area[6], area[7])
 }
 
 // Whether the area is the written form of a valid hub.
@@ -467,8 +329,5 @@ fn rows_fit(area: &[u8]) -> bool
 pub fn is_area(area: &[u8]) -> bool
     ensures { result ≡ accepts area.now }
 {
-    if is_sized(area) {
-        return rows_fit(area);
-    }
-    false
+    is_sized(area) && rows_fit(area)
 }

@@ -6,13 +6,12 @@ use Prim.Native.Nat.{ℕ, ◌≤◌, ◌<◌}
 use lib.Dec.{eqb}
 use lib.ListN.{length, get_or, set}
 use native.Mathlib.Omega.{arith}
-use Rattle.buffer.specs.declared.Slot.{Slot}
 use Rattle.translator.specs.declared.LowSide.{LowSide}
 use Rattle.translator.specs.declared.LowSide.TheVariants.{Idle}
 use Rattle.area_check.specs.Read.{low_of}
 use Rattle.area.specs.Written.{low_byte, running_byte, placed}
 use Rattle.area_parts.specs.declared.Head.{Head}
-use Rattle.area_parts.specs.Parts.{head_at, slot_at, slots_at, low_over}
+use Rattle.area_parts.specs.Parts.{head_at, low_over}
 use Rattle.area.proofs.Over.{over_none, over_some}
 
 module _ (a : List ℕ) where
@@ -25,10 +24,6 @@ module _ (a : List ℕ) where
   unfolding head_at
   head_some h l e =
       ap (λ (x : LowSide). record { ports = record { 0 = get_or a 0 0 }; count = record { 0 = get_or a 1 0 }; configured = eqb (get_or a 5 0) 1; low = x }) e ∙ over_some 8 a _ _ h
-
-  pub slots_all : (n : ℕ) (s t u v : Slot) → s ≡ slot_at n 0 a → t ≡ slot_at n 1 a → u ≡ slot_at n 2 a → v ≡ slot_at n 3 a → s ∷ t ∷ u ∷ v ∷ [] ≡ slots_at n a
-  unfolding slots_at
-  slots_all n s t u v e f g h = rw (e, f, g, h)
 
 -- two bytes written, of the first eight
 low_set : (a : List ℕ) (x y : ℕ) → 8 ≤ length a → set (set a 6 x) 7 y ≡ placed 6 2 (x ∷ y ∷ []) a

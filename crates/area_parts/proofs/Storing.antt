@@ -28,17 +28,12 @@ use Rattle.hub.specs.declared.Hub.{Hub}
 use Rattle.hub.specs.Hub.{with_translator}
 use Rattle.hub.specs.Valid.{ValidHub}
 use Rattle.area.specs.Written.{written}
-use Rattle.area_parts.specs.Parts.{buffer_at, buffer_over, rank_over, slot_ranked, ranks_over, store_over}
+use Rattle.area_parts.specs.Parts.{buffer_over, rank_over, slot_ranked, ranks_over, store_over}
 use Rattle.area_parts.proofs.Anew.{Shaped, shaped, buffer_anew, got_inside}
 
 -- ---- over plain values
 
 module _ (ss : List Slot) (n : ℕ) (i : BufferNumber) (s : StartSplit) (a : List ℕ) where
-  pub rank_pending : {q : Slot} {p r : ℕ} {b : Buffer} {e : List ℕ} → q ≡ Pending s p → r ≡ before p (bare ss) → b ≡ buffer_at n i a
-      → e ≡ buffer_over n i (record { slot = Pending s r; payload = b.payload }) a → e ≡ rank_over ss n i q a
-  unfolding rank_over
-  rank_pending slot rank got put = rw (slot, put, rank, got)
-
   pub store_all : (l : List ℕ) {a₀ a₁ a₂ a₃ e : List ℕ} {p : ℕ} {c : Payload}
       → a₀ ≡ slot_ranked ss n 0 a → a₁ ≡ slot_ranked ss n 1 a₀ → a₂ ≡ slot_ranked ss n 2 a₁ → a₃ ≡ slot_ranked ss n 3 a₂
       → p ≡ waiting (bare ss) → c ≡ payload_of l → e ≡ buffer_over n i (record { slot = Pending s p; payload = c }) a₃ → e ≡ store_over ss n i s l a

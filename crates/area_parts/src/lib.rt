@@ -42,7 +42,7 @@ pub fn head_at(area: &[u8]) -> Head
 fn start_of(ports: PortCount, number: BufferNumber) -> u16
     ensures { result ≡ buffer_start ports.0 number }
 {
-    8 + (ports.0 as u16) * 4 + (number.0 as u16) * 72
+    8 + u16::from(ports.0) * 4 + u16::from(number.0) * 72
 }
 
 // Buffer `number` of a hub with so many ports; an empty one where the area doesn't have its bytes.
@@ -61,25 +61,26 @@ pub fn slot_at(area: &[u8], ports: PortCount, number: BufferNumber) -> Slot
     area::slot_at(area, start_of(ports, number))
 }
 
+#[tactic(auto, unfolding(crate::specs::Parts::slots_at))]
 pub fn slots_at(area: &[u8], ports: PortCount) -> [Slot; 4]
     ensures { result ≡ slots_at ports.0 area.now }
 {
-    let a = slot_at(area, ports, BufferNumber(0));
-    let b = slot_at(area, ports, BufferNumber(1));
-    let c = slot_at(area, ports, BufferNumber(2));
-    let d = slot_at(area, ports, BufferNumber(3));
-    [a, b, c, d]
+    [
+        slot_at(area, ports, BufferNumber(0)),
+        slot_at(area, ports, BufferNumber(1)),
+        slot_at(area, ports, BufferNumber(2)),
+        slot_at(area, ports, BufferNumber(3)),
+    ]
 }
 
 // The low side anew, where the area has its bytes.
 pub fn write_low(low: LowSide, area: &mut [u8])
     ensures { area.new ≡ low_over low area.old }
 {
-    if area.len() < 8 {
-        return;
+    if area.len() >= 8 {
+        area[6] = area::low_byte(low);
+        area[7] = area::running_byte(low);
     }
-    area[6] = area::low_byte(low);
-    area[7] = area::running_byte(low);
 }
 
 // One buffer anew, of a hub with so many ports, where the area has its bytes.
@@ -95,19 +96,12 @@ pub fn write_buffer(ports: PortCount, number: BufferNumber, buffer: Buffer, area
 fn rerank(slots: [Slot; 4], ports: PortCount, number: BufferNumber, slot: Slot, area: &mut [u8])
     ensures { area.new ≡ rank_over slots ports.0 number slot area.old }
 {
-    match slot {
-        Slot::Empty => {}
-        Slot::Pending(split, place) => {
-            let b = buffer_at(area, ports, number);
-            let payload = b.payload;
-            let ranked = Buffer {
-                slot: Slot::Pending(split, translator::rank_of(slots, place)),
-                payload,
-            };
-            write_buffer(ports, number, ranked, area);
-        }
-        Slot::Ready(_, _) => {}
-        Slot::Old(_, _) => {}
+    if let Slot::Pending(split, place) = slot {
+        let ranked = Buffer {
+            slot: Slot::Pending(split, translator::rank_of(slots, place)),
+            ..buffer_at(area, ports, number)
+        };
+        write_buffer(ports, number, ranked, area);
     }
 }
 

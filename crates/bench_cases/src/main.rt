@@ -2,7 +2,7 @@
 // Each line has a call and the number that it answers.
 #![tactic(auto)]
 
-use hub::{Hub, Stepped};
+use hub::{Hub, Refusal, Stepped};
 use std::io::{self, Write};
 
 fn say(out: &mut impl Write, what: &str, number: u8) -> io::Result<()> {
@@ -10,8 +10,7 @@ fn say(out: &mut impl Write, what: &str, number: u8) -> io::Result<()> {
 }
 
 fn told(out: &mut impl Write, what: &str, o: Stepped) -> io::Result<()> {
-    let reply = o.reply;
-    say(out, what, reply.number)
+    say(out, what, o.reply.number)
 }
 
 // The hub after a call.
@@ -19,6 +18,7 @@ fn after(o: Stepped) -> Hub {
     o.hub
 }
 
+// A new hub is answered 0, or the number of what refuses it.
 fn made(
     out: &mut impl Write,
     what: &str,
@@ -29,7 +29,7 @@ fn made(
     removable: u32,
 ) -> io::Result<()> {
     let made = Hub::new(ports, buffers, powergood, current, removable);
-    say(out, what, made.number)
+    say(out, what, made.map_or_else(Refusal::number, |_| 0))
 }
 
 fn new_hubs(out: &mut impl Write) -> io::Result<()> {
@@ -98,66 +98,34 @@ fn unconfigured(out: &mut impl Write, hub: Hub) -> io::Result<()> {
 }
 
 fn requests(out: &mut impl Write, hub: Hub) -> io::Result<()> {
-    told(
-        out,
-        "GetPortStatus, port 0",
-        hub.control(0, &[0xA3, 0, 0, 0, 0, 0, 4, 0], 64),
-    )?;
-    told(
-        out,
-        "GetPortStatus, port 1",
-        hub.control(0, &[0xA3, 0, 0, 0, 1, 0, 4, 0], 64),
-    )?;
-    told(
-        out,
-        "GetPortStatus, port 4",
-        hub.control(0, &[0xA3, 0, 0, 0, 4, 0, 4, 0], 64),
-    )?;
-    told(
-        out,
-        "GetPortStatus, port 5",
-        hub.control(0, &[0xA3, 0, 0, 0, 5, 0, 4, 0], 64),
-    )?;
-    told(
-        out,
-        "GetPortStatus, length 3",
-        hub.control(0, &[0xA3, 0, 0, 0, 1, 0, 3, 0], 64),
-    )?;
-    told(
-        out,
-        "GetPortStatus, wIndex high byte 1",
-        hub.control(0, &[0xA3, 0, 0, 0, 1, 1, 4, 0], 64),
-    )?;
-    told(
-        out,
-        "SetPortFeature PORT_POWER, port 0",
-        hub.control(0, &[0x23, 3, 8, 0, 0, 0, 0, 0], 64),
-    )?;
-    told(
-        out,
-        "SetPortFeature PORT_POWER, port 5",
-        hub.control(0, &[0x23, 3, 8, 0, 5, 0, 0, 0], 64),
-    )?;
-    told(
-        out,
-        "SetPortFeature 1",
-        hub.control(0, &[0x23, 3, 1, 0, 1, 0, 0, 0], 64),
-    )?;
-    told(
-        out,
-        "SetConfiguration 2",
-        hub.control(0, &[0, 9, 2, 0, 0, 0, 0, 0], 64),
-    )?;
-    told(
-        out,
-        "ClearTTBuffer, transfer type 1",
-        hub.control(0, &[0x23, 8, 0x51, 0x88, 1, 0, 0, 0], 64),
-    )?;
-    told(
-        out,
-        "no such request",
-        hub.control(0, &[0x23, 10, 0, 0, 1, 0, 0, 0], 64),
-    )?;
+    for (what, setup) in [
+        ("GetPortStatus, port 0", [0xA3, 0, 0, 0, 0, 0, 4, 0]),
+        ("GetPortStatus, port 1", [0xA3, 0, 0, 0, 1, 0, 4, 0]),
+        ("GetPortStatus, port 4", [0xA3, 0, 0, 0, 4, 0, 4, 0]),
+        ("GetPortStatus, port 5", [0xA3, 0, 0, 0, 5, 0, 4, 0]),
+        ("GetPortStatus, length 3", [0xA3, 0, 0, 0, 1, 0, 3, 0]),
+        (
+            "GetPortStatus, wIndex high byte 1",
+            [0xA3, 0, 0, 0, 1, 1, 4, 0],
+        ),
+        (
+            "SetPortFeature PORT_POWER, port 0",
+            [0x23, 3, 8, 0, 0, 0, 0, 0],
+        ),
+        (
+            "SetPortFeature PORT_POWER, port 5",
+            [0x23, 3, 8, 0, 5, 0, 0, 0],
+        ),
+        ("SetPortFeature 1", [0x23, 3, 1, 0, 1, 0, 0, 0]),
+        ("SetConfiguration 2", [0, 9, 2, 0, 0, 0, 0, 0]),
+        (
+            "ClearTTBuffer, transfer type 1",
+            [0x23, 8, 0x51, 0x88, 1, 0, 0, 0],
+        ),
+        ("no such request", [0x23, 10, 0, 0, 1, 0, 0, 0]),
+    ] {
+        told(out, what, hub.control(0, &setup, 64))?;
+    }
     told(
         out,
         "seven setup bytes",
@@ -399,17 +367,26 @@ fn lanes(out: &mut impl Write, hub: Hub) -> io::Result<()> {
     )
 }
 
+fn all(out: &mut impl Write, hub: Hub) -> io::Result<()> {
+    unconfigured(out, hub)?;
+    let on = after(hub.control(0, &[0, 9, 1, 0, 0, 0, 0, 0], 64));
+    requests(out, on)?;
+    numbers(out, on)?;
+    lane_numbers(out, on)?;
+    states(out, on)?;
+    busy(out, on)?;
+    lanes(out, on)
+}
+
 fn main(rt: HostRuntime) -> io::Result<()> {
     let mut out = io::writer(&rt);
     new_hubs(&mut out)?;
-    let made = Hub::new(4, 3, 0x32, 0x64, 0);
-    let hub = made.hub;
-    unconfigured(&mut out, hub)?;
-    let on = after(hub.control(0, &[0, 9, 1, 0, 0, 0, 0, 0], 64));
-    requests(&mut out, on)?;
-    numbers(&mut out, on)?;
-    lane_numbers(&mut out, on)?;
-    states(&mut out, on)?;
-    busy(&mut out, on)?;
-    lanes(&mut out, on)
+    match Hub::new(4, 3, 0x32, 0x64, 0) {
+        Ok(hub) => all(&mut out, hub),
+        Err(refusal) => say(
+            &mut out,
+            "no hub of 4 ports and 3 buffers",
+            refusal.number(),
+        ),
+    }
 }

@@ -1,7 +1,7 @@
 -- The test of two keys is their equality. Assumes nothing.
 use mathlib.Core.Path.{◌≡◌, refl, sym, ◌∙◌, ap}
-use mathlib.Core.Bool.{Bool, true, false, ◌&&◌, and-eq-true_iff, and-false, false≢true}
-use borrow.Author.Tests.{eqb-true, eq-eqb, ne_eqb}
+use mathlib.Core.Bool.{Bool, true, false, ◌&&◌, and-eq-true_iff, false≢true}
+use borrow.Author.Tests.{eqb-true, eq-eqb}
 use lib.Dec.{eqb}
 use Rattle.buffer.specs.declared.Lane.{Lane}
 use Rattle.buffer.specs.declared.Lane.TheVariants.{Zero, One}
@@ -68,14 +68,3 @@ key? a b = go (same_key a b) refl
 
 pub key_test_holds : KeyTest
 key_test_holds a b = (same_true a b, same_eq a b)
-
--- ---- by their address first
-
-pub address_differs : (a b : Key) → ¬ (a.address.0 ≡ b.address.0) → false ≡ same_key a b
-unfolding same_key
-address_differs a b d = rw (ne_eqb a.address.0 b.address.0 d) (sym (and-false (same_lane a.lane b.lane)))
-
-pub address_same : (a b : Key) → a.address.0 ≡ b.address.0
-    → (same_lane a.lane b.lane && (eqb a.endpoint b.endpoint && same_direction a.direction b.direction)) ≡ same_key a b
-unfolding same_key
-address_same a b e = rw (eq-eqb a.address.0 b.address.0 e)

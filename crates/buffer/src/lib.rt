@@ -2,7 +2,7 @@
 #![tactic(auto)]
 
 ghost use Rattle.std.specs.Prelude.{◌≡◌};
-ghost use Rattle.buffer.specs.Same.{same_direction, same_key};
+ghost use Rattle.buffer.specs.Same.{same_key};
 ghost use Rattle.buffer.specs.Claims.{KeyTest};
 ghost use Rattle.buffer.specs.Key.{direction_of, key_with, key_of, same_lane};
 ghost use Rattle.buffer.specs.Lengths.{type_fits, numbers_fit, start_length, start_fits, is_data, result_length, suits};
@@ -12,32 +12,32 @@ ghost use Rattle.buffer.specs.Buffer.{vacant, in_lane, active_in, holds};
 use payload::Payload;
 
 // The number of a buffer, counted from 0. No port number and no device address can stand for it.
-#[derive(Clone, Copy)]
+#[derive(Clone, Copy, PartialEq, Eq)]
 pub struct BufferNumber(pub u8);
 
 // How many buffers a translator has.
-#[derive(Clone, Copy)]
+#[derive(Clone, Copy, PartialEq, Eq)]
 pub struct BufferCount(pub u8);
 
 // The address of a device on the bus, 0 to 127.
-#[derive(Clone, Copy)]
+#[derive(Clone, Copy, PartialEq, Eq)]
 pub struct DeviceAddress(pub u8);
 
 // The way in of one of the two computers (an upstream facing port, in USB's words).
-#[derive(Clone, Copy)]
+#[derive(Clone, Copy, PartialEq, Eq)]
 pub enum Lane {
     Zero,
     One,
 }
 
-#[derive(Clone, Copy)]
+#[derive(Clone, Copy, PartialEq, Eq)]
 pub enum Direction {
     Out,
     In,
 }
 
 // What a buffer is held under.
-#[derive(Clone, Copy)]
+#[derive(Clone, Copy, PartialEq, Eq)]
 pub struct Key {
     pub lane: Lane,
     pub address: DeviceAddress,
@@ -46,21 +46,21 @@ pub struct Key {
 }
 
 // The PID of a start-split's token.
-#[derive(Clone, Copy)]
+#[derive(Clone, Copy, PartialEq, Eq)]
 pub enum Pid {
     Out,
     In,
     Setup,
 }
 
-#[derive(Clone, Copy)]
+#[derive(Clone, Copy, PartialEq, Eq)]
 pub enum TransferType {
     Control,
     Bulk,
 }
 
 // What a start-split asks for, its payload apart. The key follows from it, so that key and PID agree.
-#[derive(Clone, Copy)]
+#[derive(Clone, Copy, PartialEq, Eq)]
 pub struct StartSplit {
     pub lane: Lane,
     pub pid: Pid,
@@ -72,7 +72,7 @@ pub struct StartSplit {
 }
 
 // What came of a transaction on the full- or low-speed bus.
-#[derive(Clone, Copy)]
+#[derive(Clone, Copy, PartialEq, Eq)]
 pub enum DeviceResult {
     Failure,
     Ack,
@@ -83,7 +83,7 @@ pub enum DeviceResult {
 }
 
 // A pending buffer has a place in the order of acceptance.
-#[derive(Clone, Copy)]
+#[derive(Clone, Copy, PartialEq, Eq)]
 pub enum Slot {
     Empty,
     Pending(StartSplit, u8),
@@ -99,7 +99,7 @@ pub struct Buffer {
 }
 
 // How a buffer stands to a key that is looked for.
-#[derive(Clone, Copy)]
+#[derive(Clone, Copy, PartialEq, Eq)]
 pub enum Standing {
     // pending or ready under another key
     Busy,
@@ -116,43 +116,8 @@ impl Pid {
         ensures { result ≡ direction_of self }
     {
         match self {
-            Pid::Out => Direction::Out,
             Pid::In => Direction::In,
-            Pid::Setup => Direction::Out,
-        }
-    }
-}
-
-impl Lane {
-    pub fn same(self, other: Lane) -> bool
-        ensures { result ≡ same_lane self other }
-    {
-        match self {
-            Lane::Zero => match other {
-                Lane::Zero => true,
-                Lane::One => false,
-            },
-            Lane::One => match other {
-                Lane::Zero => false,
-                Lane::One => true,
-            },
-        }
-    }
-}
-
-impl Direction {
-    fn same(self, other: Direction) -> bool
-        ensures { result ≡ same_direction self other }
-    {
-        match self {
-            Direction::Out => match other {
-                Direction::Out => true,
-                Direction::In => false,
-            },
-            Direction::In => match other {
-                Direction::Out => false,
-                Direction::In => true,
-            },
+            Pid::Out | Pid::Setup => Direction::Out,
         }
     }
 }
@@ -171,20 +136,14 @@ impl Key {
     }
 
     // The one test of keys. Most differ in their address.
+    #[tactic(auto, unfolding(crate::specs::Same::same_key))]
     pub fn same(self, other: Key) -> bool
         ensures { result ≡ same_key self other }
     {
-        if self.address.0 != other.address.0 {
-            return false;
-        }
-        let here = self.lane;
-        let there = other.lane;
-        let mine = self.direction;
-        let theirs = other.direction;
-        bools::both(
-            here.same(there),
-            bools::both(self.endpoint == other.endpoint, mine.same(theirs)),
-        )
+        self.address == other.address
+            && self.lane == other.lane
+            && self.endpoint == other.endpoint
+            && self.direction == other.direction
     }
 }
 
@@ -193,17 +152,7 @@ impl StartSplit {
     pub fn key(self) -> Key
         ensures { result ≡ key_of self }
     {
-        let lane = self.lane;
-        let pid = self.pid;
-        let address = self.address;
-        Key::new(lane, address, self.endpoint, pid.direction())
-    }
-
-    pub fn is_from(self, lane: Lane) -> bool
-        ensures { result ≡ same_lane self.lane lane }
-    {
-        let mine = self.lane;
-        mine.same(lane)
+        Key::new(self.lane, self.address, self.endpoint, self.pid.direction())
     }
 
     pub fn is_for(self, key: Key) -> bool
@@ -217,12 +166,7 @@ impl StartSplit {
     pub fn has_numbers(self) -> bool
         ensures { result ≡ numbers_fit self }
     {
-        let pid = self.pid;
-        let transfer = self.transfer;
-        bools::both(
-            bools::both(self.address.0 < 128, self.endpoint < 16),
-            pid.goes_with(transfer),
-        )
+        self.address.0 < 128 && self.endpoint < 16 && self.pid.goes_with(self.transfer)
     }
 
     // Whether its numbers are within the rules, with a payload of so many bytes.
@@ -230,8 +174,7 @@ impl StartSplit {
     pub fn fits(self, len: usize) -> bool
         ensures { result ≡ start_fits self len }
     {
-        let pid = self.pid;
-        bools::both(self.has_numbers(), pid.carries(len))
+        self.has_numbers() && self.pid.carries(len)
     }
 }
 
@@ -239,14 +182,7 @@ impl Pid {
     fn goes_with(self, transfer: TransferType) -> bool
         ensures { result ≡ type_fits self transfer }
     {
-        match self {
-            Pid::Out => true,
-            Pid::In => true,
-            Pid::Setup => match transfer {
-                TransferType::Control => true,
-                TransferType::Bulk => false,
-            },
-        }
+        !matches!((self, transfer), (Pid::Setup, TransferType::Bulk))
     }
 
     // Whether a start-split with this PID carries so many bytes.
@@ -265,14 +201,7 @@ impl DeviceResult {
     pub fn is_data(self) -> bool
         ensures { result ≡ is_data self }
     {
-        match self {
-            DeviceResult::Failure => false,
-            DeviceResult::Ack => false,
-            DeviceResult::Nak => false,
-            DeviceResult::Stall => false,
-            DeviceResult::Data0 => true,
-            DeviceResult::Data1 => true,
-        }
+        matches!(self, DeviceResult::Data0 | DeviceResult::Data1)
     }
 
     // Whether a result of this kind carries so many bytes.
@@ -280,38 +209,18 @@ impl DeviceResult {
     pub fn carries(self, len: usize) -> bool
         ensures { result ≡ result_length self len }
     {
-        bools::both(len <= 64, bools::either(self.is_data(), len == 0))
+        len <= 64 && (self.is_data() || len == 0)
     }
 
     // Whether it can be the result of a transaction with this PID.
     pub fn suits(self, pid: Pid) -> bool
         ensures { result ≡ suits pid self }
     {
-        match pid {
-            Pid::In => match self {
-                DeviceResult::Failure => true,
-                DeviceResult::Ack => false,
-                DeviceResult::Nak => true,
-                DeviceResult::Stall => true,
-                DeviceResult::Data0 => true,
-                DeviceResult::Data1 => true,
-            },
-            Pid::Out => match self {
-                DeviceResult::Failure => true,
-                DeviceResult::Ack => true,
-                DeviceResult::Nak => true,
-                DeviceResult::Stall => true,
-                DeviceResult::Data0 => false,
-                DeviceResult::Data1 => false,
-            },
-            Pid::Setup => match self {
-                DeviceResult::Failure => true,
-                DeviceResult::Ack => true,
-                DeviceResult::Nak => false,
-                DeviceResult::Stall => false,
-                DeviceResult::Data0 => false,
-                DeviceResult::Data1 => false,
-            },
+        match self {
+            DeviceResult::Failure => true,
+            DeviceResult::Ack => matches!(pid, Pid::Out | Pid::Setup),
+            DeviceResult::Nak | DeviceResult::Stall => matches!(pid, Pid::In | Pid::Out),
+            DeviceResult::Data0 | DeviceResult::Data1 => matches!(pid, Pid::In),
         }
     }
 }
@@ -338,9 +247,9 @@ impl Slot {
     {
         match self {
             Slot::Empty => false,
-            Slot::Pending(split, _) => split.is_from(lane),
-            Slot::Ready(split, _) => split.is_from(lane),
-            Slot::Old(split, _) => split.is_from(lane),
+            Slot::Pending(split, _) | Slot::Ready(split, _) | Slot::Old(split, _) => {
+                split.lane == lane
+            }
         }
     }
 
@@ -349,10 +258,8 @@ impl Slot {
         ensures { result ≡ active_in lane self }
     {
         match self {
-            Slot::Empty => false,
-            Slot::Pending(split, _) => split.is_from(lane),
-            Slot::Ready(split, _) => split.is_from(lane),
-            Slot::Old(_, _) => false,
+            Slot::Empty | Slot::Old(_, _) => false,
+            Slot::Pending(split, _) | Slot::Ready(split, _) => split.lane == lane,
         }
     }
 
@@ -361,9 +268,9 @@ impl Slot {
     {
         match self {
             Slot::Empty => false,
-            Slot::Pending(split, _) => split.is_for(key),
-            Slot::Ready(split, _) => split.is_for(key),
-            Slot::Old(split, _) => split.is_for(key),
+            Slot::Pending(split, _) | Slot::Ready(split, _) | Slot::Old(split, _) => {
+                split.is_for(key)
+            }
         }
     }
 
@@ -372,14 +279,7 @@ impl Slot {
     {
         match self {
             Slot::Empty => Standing::Free,
-            Slot::Pending(split, _) => {
-                if split.is_for(key) {
-                    Standing::Holds
-                } else {
-                    Standing::Busy
-                }
-            }
-            Slot::Ready(split, _) => {
+            Slot::Pending(split, _) | Slot::Ready(split, _) => {
                 if split.is_for(key) {
                     Standing::Holds
                 } else {

@@ -3,11 +3,11 @@ use mathlib.Core.Path.{refl}
 use Rattle.call_bytes.specs.Words.{words, words_at}
 use Rattle.call_bytes.specs.Table.{kind_of, with_tag}
 use Rattle.call_bytes.specs.Written.{written_form}
-use Rattle.call_bytes.specs.Read.{read_of, is_record}
+use Rattle.call_bytes.specs.Read.{read_of}
 use Rattle.call_bytes.specs.Cases.{RecordCases}
 
 pub record_cases_lem : RecordCases
-unfolding written_form words read_of is_record kind_of with_tag words_at
+unfolding written_form words read_of kind_of with_tag words_at
 record_cases_lem =
     record {
       start_written = refl;

@@ -3,9 +3,10 @@ use Prim.Native.Nat.{ℕ, zero, suc, ◌+◌, ◌*◌, ◌/◌, ◌%◌, ◌<◌
 use native.Mathlib.Omega.{arith}
 use mathlib.Core.Path.{◌≡◌, refl, sym, ◌∙◌, ap, ap₂, subst}
 use mathlib.Core.List.{List, [], ◌∷◌, ◌++◌, append_assoc, append-nil}
-use mathlib.Core.Bool.{Bool, true, false, cond, ◌&&◌, false≢true, true≢false}
-use borrow.Author.Tests.{eqb-true, leb-true, leb-false, le-leb}
+use mathlib.Core.Bool.{Bool, true, false, cond, true≢false}
+use borrow.Author.Tests.{eqb-true, leb-true, leb-false}
 use lib.Dec.{eqb, leb}
+use Rattle.std.proofs.Common.{Option, Some, None}
 use lib.ListN.{length, get_or, take, drop, length-append, take-append-drop, length-drop, length-take}
 use lib.Seq.{drop-cons, take-add, get_or-append-add, get_or_at, drop-append-add, take-append_seam, length-take-le, get_or-drop}
 use Rattle.hub.specs.Call.{Call, Control, Poll, Start, Complete, Launch, Deliver, Event, Tick, BusReset}
@@ -13,75 +14,77 @@ use Rattle.call_bytes.specs.declared.CallKind.{CallKind}
 use Rattle.call_bytes.specs.declared.CallKind.TheVariants as kind
 use Rattle.call_bytes.specs.declared.Recorded.{Recorded}
 use Rattle.call_bytes.specs.Words.{half, words, word_at, half_at, words_at}
-use Rattle.call_bytes.specs.Table.{tag_of, kinds, with_tag, kind_of, numbers_of, carries, Form, form_of, call_of, is_known}
+use Rattle.call_bytes.specs.Table.{tag_of, kinds, with_tag, kind_of, numbers_of, carries, Form, form_of, call_of}
 use Rattle.call_bytes.specs.Written.{tail_of, written_form, written, Bytes, Fits}
 use Rattle.call_bytes.specs.Claims.{Takes, Starts, RecordExact}
-use Rattle.call_bytes.specs.Read.{head_of, start_of, size_in, is_record, seven, recorded_as, no_record, read_of, call_in}
+use Rattle.call_bytes.specs.Read.{head_of, start_of, size_in, seven, recorded_as, read_of, call_in}
 use Rattle.call_bytes.proofs.Words.{half_of, half-take, words_take, length-words, words_back}
-use Rattle.call_bytes.proofs.Reading.{number_at, number_none, head_start}
+use Rattle.call_bytes.proofs.Reading.{number_at, number_none, head_start, read_known, read_unknown, read_whole}
 
 -- ---- the table's rows, each by itself
 
-tag_back : (k : CallKind) → is_known k ≡ true → kind_of (tag_of k) ≡ k
+tag_back : (k : CallKind) → kind_of (tag_of k) ≡ Some k
 unfolding kind_of with_tag
-tag_back kind.Unknown e = absurd (false≢true e)
-tag_back kind.Control e = refl
-tag_back kind.Poll e = refl
-tag_back kind.StartSplit e = refl
-tag_back kind.CompleteSplit e = refl
-tag_back kind.Launch e = refl
-tag_back kind.Deliver e = refl
-tag_back kind.LineEvent e = refl
-tag_back kind.Tick e = refl
-tag_back kind.BusReset e = refl
+tag_back kind.Control = refl
+tag_back kind.Poll = refl
+tag_back kind.StartSplit = refl
+tag_back kind.CompleteSplit = refl
+tag_back kind.Launch = refl
+tag_back kind.Deliver = refl
+tag_back kind.LineEvent = refl
+tag_back kind.Tick = refl
+tag_back kind.BusReset = refl
 
--- a tag that is known is the tag of its kind
-found : (t : ℕ) (ks : List CallKind) → is_known (with_tag t ks) ≡ true → tag_of (with_tag t ks) ≡ t
+pub none_some : {A : Type 0} {x : A} → ◌≡◌ {A = Option A} None (Some x) → ⊥
+none_some e = let z : ◌≡◌ {A = ℕ} 0 1 = cc in omega arith
+
+pub some_same : {A : Type 0} {x y : A} → ◌≡◌ {A = Option A} (Some x) (Some y) → x ≡ y
+some_same e = cc
+
+-- a kind that is found has the tag
+found : (t : ℕ) (ks : List CallKind) (j : CallKind) → with_tag t ks ≡ Some j → tag_of j ≡ t
 unfolding with_tag
-found t [] e = absurd (false≢true e)
-found t (k ∷ ks) e = go (eqb t (tag_of k)) refl (found t ks) e
+found t [] j e = absurd (none_some e)
+found t (k ∷ ks) j e = go (eqb t (tag_of k)) refl e (found t ks j)
   where
-    go : (x : Bool) → eqb t (tag_of k) ≡ x → (is_known (with_tag t ks) ≡ true → tag_of (with_tag t ks) ≡ t) → is_known (cond x k (with_tag t ks)) ≡ true
-        → tag_of (cond x k (with_tag t ks)) ≡ t
-    go true p ih e = sym (eqb-true t (tag_of k) p)
-    go false p ih e = ih e
+    go : (x : Bool) → eqb t (tag_of k) ≡ x → cond x (Some k) (with_tag t ks) ≡ Some j → (with_tag t ks ≡ Some j → tag_of j ≡ t) → tag_of j ≡ t
+    go true p q ih = ap tag_of (sym (some_same q)) ∙ sym (eqb-true t (tag_of k) p)
+    go false p q ih = ih q
 
-kind_back : (t : ℕ) → is_known (kind_of t) ≡ true → tag_of (kind_of t) ≡ t
+kind_back : (t : ℕ) (k : CallKind) → kind_of t ≡ Some k → tag_of k ≡ t
 unfolding kind_of
-kind_back t e = found t kinds e
+kind_back t k e = found t kinds k e
 
 -- what is read of a kind is the form of a call of that kind
-form_back : (k : CallKind) (l b : List ℕ) → is_known k ≡ true
+form_back : (k : CallKind) (l b : List ℕ)
     → form_of (call_of k (seven (words_at l 1 (numbers_of k))) b) ≡ record { kind = k; numbers = words_at l 1 (numbers_of k); bytes = cond (carries k) b [] }
 unfolding words_at
-form_back kind.Unknown l b e = absurd (false≢true e)
-form_back kind.Control l b e = refl
-form_back kind.Poll l b e = refl
-form_back kind.StartSplit l b e = refl
-form_back kind.CompleteSplit l b e = refl
-form_back kind.Launch l b e = refl
-form_back kind.Deliver l b e = refl
-form_back kind.LineEvent l b e = refl
-form_back kind.Tick l b e = refl
-form_back kind.BusReset l b e = refl
+form_back kind.Control l b = refl
+form_back kind.Poll l b = refl
+form_back kind.StartSplit l b = refl
+form_back kind.CompleteSplit l b = refl
+form_back kind.Launch l b = refl
+form_back kind.Deliver l b = refl
+form_back kind.LineEvent l b = refl
+form_back kind.Tick l b = refl
+form_back kind.BusReset l b = refl
 
--- each call: its kind is known, it has as many numbers as the table says, bytes only where the table says so, and its form gives it back
+-- each call: it has as many numbers as the table says, bytes only where the table says so, and its form gives it back
 record Row (c : Call) : Type 0 where
-  pub known : is_known (form_of c).kind ≡ true
   pub count : length (form_of c).numbers ≡ numbers_of (form_of c).kind
   pub none : carries (form_of c).kind ≡ false → (form_of c).bytes ≡ []
   pub back : call_of (form_of c).kind (seven (form_of c).numbers) (form_of c).bytes ≡ c
 
 row : (c : Call) → Row c
-row (Control z s room) = record { known = refl; count = refl; none = λ e. absurd (true≢false e); back = refl }
-row (Poll z room) = record { known = refl; count = refl; none = λ _. refl; back = refl }
-row (Start z p t f g a e l) = record { known = refl; count = refl; none = λ x. absurd (true≢false x); back = refl }
-row (Complete z a e d room) = record { known = refl; count = refl; none = λ _. refl; back = refl }
-row (Launch room) = record { known = refl; count = refl; none = λ _. refl; back = refl }
-row (Deliver r l) = record { known = refl; count = refl; none = λ e. absurd (true≢false e); back = refl }
-row (Event e n) = record { known = refl; count = refl; none = λ _. refl; back = refl }
-row Tick = record { known = refl; count = refl; none = λ _. refl; back = refl }
-row BusReset = record { known = refl; count = refl; none = λ _. refl; back = refl }
+row (Control z s room) = record { count = refl; none = λ e. absurd (true≢false e); back = refl }
+row (Poll z room) = record { count = refl; none = λ _. refl; back = refl }
+row (Start z p t f g a e l) = record { count = refl; none = λ x. absurd (true≢false x); back = refl }
+row (Complete z a e d room) = record { count = refl; none = λ _. refl; back = refl }
+row (Launch room) = record { count = refl; none = λ _. refl; back = refl }
+row (Deliver r l) = record { count = refl; none = λ e. absurd (true≢false e); back = refl }
+row (Event e n) = record { count = refl; none = λ _. refl; back = refl }
+row Tick = record { count = refl; none = λ _. refl; back = refl }
+row BusReset = record { count = refl; none = λ _. refl; back = refl }
 
 -- ---- bytes of a part are bytes
 
@@ -135,54 +138,45 @@ module _ (l : List ℕ) (b : Bytes l) (m : ℕ) where
       size : length (take (half_at l (1 + 4 * m)) (drop (1 + 4 * m + 2) l)) ≡ half_at l (1 + 4 * m)
       size = length-take-le (half_at l (1 + 4 * m)) (drop (1 + 4 * m + 2) l) (simp length-drop (omega arith))
 
--- what read_of says where it takes a record
-record Read (l : List ℕ) (k : CallKind) : Type 0 where
-  pub is : kind_of (get_or l 0 0) ≡ k
-  pub known : is_known k ≡ true
-  pub room : start_of k + size_in k l ≤ length l
-  pub whole : read_of l ≡ recorded_as k l
+-- what read_of says where it reads the record r
+record Read (l : List ℕ) (r : Recorded) : Type 0 where
+  pub kind : CallKind
+  pub is : kind_of (get_or l 0 0) ≡ Some kind
+  pub room : start_of kind + size_in kind l ≤ length l
+  pub whole : recorded_as kind l ≡ r
 
-read_known : (l : List ℕ) → is_known (read_of l).kind ≡ true → Read l (kind_of (get_or l 0 0))
-unfolding read_of is_record
-read_known l e = go (is_known (kind_of (get_or l 0 0))) refl (leb (start_of (kind_of (get_or l 0 0)) + size_in (kind_of (get_or l 0 0)) l) (length l)) refl e
+read_says : (l : List ℕ) (r : Recorded) → read_of l ≡ Some r → Read l r
+read_says l r e = go (kind_of (get_or l 0 0)) refl
   where
-    k : CallKind
-    k = kind_of (get_or l 0 0)
-
-    go : (x : Bool) → is_known (kind_of (get_or l 0 0)) ≡ x → (y : Bool) → leb (start_of (kind_of (get_or l 0 0)) + size_in (kind_of (get_or l 0 0)) l) (length l) ≡ y
-        → is_known (cond (x && y) (recorded_as (kind_of (get_or l 0 0)) l) no_record).kind ≡ true → Read l (kind_of (get_or l 0 0))
-    go true p true q e = record { is = refl; known = p; room = leb-true _ (length l) q; whole = rw (p, q) }
-    go true p false q e = absurd (false≢true e)
-    go false p y q e = absurd (false≢true e)
-
-read_is : (l : List ℕ) (k : CallKind) → kind_of (get_or l 0 0) ≡ k → is_known k ≡ true → start_of k + size_in k l ≤ length l → read_of l ≡ recorded_as k l
-unfolding read_of is_record
-read_is l k e f g = rw (e, f, le-leb (start_of k + size_in k l) (length l) g)
+    go : (o : Option CallKind) → kind_of (get_or l 0 0) ≡ o → Read l r
+    go None p = absurd (none_some (sym (read_unknown l p) ∙ e))
+    go (Some k) p = fits (leb (start_of k + size_in k l) (length l)) refl (sym (read_known l k p) ∙ e)
+      where
+        fits : (x : Bool) → leb (start_of k + size_in k l) (length l) ≡ x → cond x (Some (recorded_as k l)) None ≡ Some r → Read l r
+        fits true q f = record { kind = k; is = p; room = leb-true _ (length l) q; whole = some_same f }
+        fits false q f = absurd (none_some f)
 
 module _ (l : List ℕ) (b : Bytes l) where
   -- the call that is read
   abbrev got : CallKind → Call
   got k = call_of k (seven (words_at l 1 (numbers_of k))) (take (size_in k l) (drop (start_of k) l))
 
-  got_form : (k : CallKind) → Read l k → form_of (got k) ≡ record { kind = k; numbers = words_at l 1 (numbers_of k); bytes = cond (carries k) (take (size_in k l) (drop (start_of k) l)) [] }
-  got_form k r = form_back k l (take (size_in k l) (drop (start_of k) l)) r.known
+  got_form : (k : CallKind) → form_of (got k) ≡ record { kind = k; numbers = words_at l 1 (numbers_of k); bytes = cond (carries k) (take (size_in k l) (drop (start_of k) l)) [] }
+  got_form k = form_back k l (take (size_in k l) (drop (start_of k) l))
 
-  got_written : (k : CallKind) → Read l k → take (start_of k + size_in k l) l ≡ written (got k)
+  got_written : (k : CallKind) → kind_of (get_or l 0 0) ≡ Some k → start_of k + size_in k l ≤ length l → take (start_of k + size_in k l) l ≡ written (got k)
   unfolding written_form
-  got_written k r =
-      taken_form l b (numbers_of k) (carries k) r.room
-      ∙ ap (λ (x : ℕ). x ∷ (words (words_at l 1 (numbers_of k)) ++ tail_of (carries k) (cond (carries k) (take (size_in k l) (drop (start_of k) l)) []))) tag
-      ∙ sym (ap written_form (got_form k r))
-    where
-      tag : get_or l 0 0 ≡ tag_of k
-      tag = sym (kind_back (get_or l 0 0) (ap is_known r.is ∙ r.known)) ∙ ap tag_of r.is
+  got_written k is room =
+      taken_form l b (numbers_of k) (carries k) room
+      ∙ ap (λ (x : ℕ). x ∷ (words (words_at l 1 (numbers_of k)) ++ tail_of (carries k) (cond (carries k) (take (size_in k l) (drop (start_of k) l)) []))) (sym (kind_back (get_or l 0 0) k is))
+      ∙ sym (ap written_form (got_form k))
 
-  got_fits : (k : CallKind) → Read l k → Fits (got k)
-  got_fits k r =
+  got_fits : (k : CallKind) → Fits (got k)
+  got_fits k =
       record {
-        numbers = λ i. subst (λ (f : Form). get_or f.numbers i 0 < 2 ^ 32) (sym (got_form k r)) (number_lt l 1 (numbers_of k) i b);
-        bytes = subst (λ (f : Form). Bytes f.bytes) (sym (got_form k r)) (some_bytes (carries k));
-        size = subst (λ (f : Form). length f.bytes < 2 ^ 16) (sym (got_form k r)) (short (carries k));
+        numbers = λ i. subst (λ (f : Form). get_or f.numbers i 0 < 2 ^ 32) (sym (got_form k)) (number_lt l 1 (numbers_of k) i b);
+        bytes = subst (λ (f : Form). Bytes f.bytes) (sym (got_form k)) (some_bytes (carries k));
+        size = subst (λ (f : Form). length f.bytes < 2 ^ 16) (sym (got_form k)) (short (carries k));
       }
     where
       some_bytes : (t : Bool) → Bytes (cond t (take (size_in k l) (drop (start_of k) l)) [])
@@ -199,13 +193,12 @@ module _ (l : List ℕ) (b : Bytes l) where
 
   taken_starts : (c : Call) (n : ℕ) → Takes l c n → Starts l c n
   taken_starts c n t =
-      let r = read_known l t.known in
-      let k : CallKind = kind_of (get_or l 0 0) in
-      let called : got (kind_of (get_or l 0 0)) ≡ c = sym (ap (λ (x : Recorded). call_in x l) r.whole) ∙ t.call in
-      let long : start_of (kind_of (get_or l 0 0)) + size_in (kind_of (get_or l 0 0)) l ≡ n = sym (ap (λ (x : Recorded). x.length) r.whole) ∙ t.size in
-      let w : take n l ≡ written c = ap (λ (m : ℕ). take m l) (sym long) ∙ (got_written (kind_of (get_or l 0 0)) r ∙ ap written called) in
+      let r : Read l t.record_read = read_says l t.record_read t.known in
+      let called : got r.kind ≡ c = ap (λ (x : Recorded). call_in x l) r.whole ∙ t.call in
+      let long : start_of r.kind + size_in r.kind l ≡ n = ap (λ (x : Recorded). x.length) r.whole ∙ t.size in
+      let w : take n l ≡ written c = ap (λ (m : ℕ). take m l) (sym long) ∙ (got_written r.kind r.is r.room ∙ ap written called) in
       record {
-        fits = subst Fits called (got_fits (kind_of (get_or l 0 0)) r);
+        fits = subst Fits called (got_fits r.kind);
         size = sym (length-take-le n l (subst (λ (m : ℕ). m ≤ length l) long r.room)) ∙ ap length w;
         form = w;
       }
@@ -252,12 +245,10 @@ written_takes : (c : Call) (rest : List ℕ) → Fits c → Takes (written c ++ 
 unfolding written_form
 written_takes c rest f =
     record {
-      known = ap (λ (x : Recorded). is_known x.kind) said ∙ r.known;
-      call =
-          ap (λ (x : Recorded). call_in x l) said
-          ∙ ap₂ (λ (n : List ℕ) (y : List ℕ). call_of k (seven n) y) numbers bytes
-          ∙ r.back;
-      size = ap (λ (x : Recorded). x.length) said ∙ long;
+      record_read = recorded_as k l;
+      known = said;
+      call = ap₂ (λ (n : List ℕ) (y : List ℕ). call_of k (seven n) y) numbers bytes ∙ r.back;
+      size = long;
     }
   where
     k : CallKind
@@ -289,10 +280,8 @@ written_takes c rest f =
         ap₂ (λ (m n : ℕ). cond (carries (form_of c).kind) (1 + 4 * m + 2) (1 + 4 * m) + n) (sym (row c).count) size
         ∙ length_back (tag_of (form_of c).kind) (form_of c).numbers (form_of c).bytes rest f.numbers f.size (carries (form_of c).kind) (row c).none
 
-    said : read_of (written c ++ rest) ≡ recorded_as (form_of c).kind (written c ++ rest)
-    said =
-        read_is (written c ++ rest) (form_of c).kind (tag_back (form_of c).kind (row c).known) (row c).known
-        (omega (arith, long, length-append (written c) rest))
+    said : read_of (written c ++ rest) ≡ Some (recorded_as (form_of c).kind (written c ++ rest))
+    said = read_whole (written c ++ rest) (form_of c).kind (tag_back (form_of c).kind) (omega (arith, long, length-append (written c) rest))
 
 starts_taken : (l : List ℕ) (c : Call) (n : ℕ) → Starts l c n → Takes l c n
 starts_taken l c n s =
@@ -329,22 +318,32 @@ record_exact_lem =
     record {
       exact = λ l c n b. (taken_starts l b c n, starts_taken l c n);
       refused = λ l b. (
-        λ e c n s. true≢false (sym (starts_taken l c n s).known ∙ e),
-        λ none. shut l b none (is_known (read_of l).kind) refl,
+        λ e c n s. none_some (sym e ∙ (starts_taken l c n s).known),
+        λ none. shut l b none (read_of l) refl,
       );
       again = λ c l f. written_takes c l f;
-      apart = λ c d f g e. sym (whole c f).call ∙ ap (λ (x : List ℕ). call_in (read_of x) x) e ∙ (whole d g).call;
+      apart = λ c d f g e. (
+          let p = whole c f in
+          let q = whole d g in
+          let same : p.record_read ≡ q.record_read = some_same (sym p.known ∙ ap read_of e ∙ q.known) in
+          sym p.call ∙ ap₂ (λ (r : Recorded) (x : List ℕ). call_in r x) same e ∙ q.call);
       short = short;
     }
   where
-    shut : (l : List ℕ) → Bytes l → ((c : Call) (n : ℕ) → ¬ (Starts l c n)) → (x : Bool) → is_known (read_of l).kind ≡ x → x ≡ false
-    shut l b none true e = absurd (none (call_in (read_of l) l) (read_of l).length (taken_starts l b _ _ (record { known = e; call = refl; size = refl })))
-    shut l b none false e = refl
+    shut : (l : List ℕ) → Bytes l → ((c : Call) (n : ℕ) → ¬ (Starts l c n)) → (o : Option Recorded) → read_of l ≡ o → read_of l ≡ None
+    shut l b none None e = e
+    shut l b none (Some r) e =
+        absurd (none (call_in r l) r.length (taken_starts l b _ _ (record { record_read = r; known = e; call = refl; size = refl })))
 
--- a record that is taken has at least one byte and ends inside l
-pub read_size : (l : List ℕ) → is_known (read_of l).kind ≡ true → (1 ≤ (read_of l).length) × ((read_of l).length ≤ length l)
-read_size l e =
-    let r = read_known l e in
-    let long : (read_of l).length ≡ start_of (kind_of (get_or l 0 0)) + size_in (kind_of (get_or l 0 0)) l = ap (λ (x : Recorded). x.length) r.whole in
-    let least : head_of (kind_of (get_or l 0 0)) ≤ start_of (kind_of (get_or l 0 0)) = head_start (kind_of (get_or l 0 0)) in
-    (omega (arith, long, least), omega (arith, long, r.room))
+-- a record that is read has at least one byte, ends inside l, and its parts make up its length
+pub read_size : (l : List ℕ) (r : Recorded) → read_of l ≡ Some r → (1 ≤ r.length) × (r.length ≤ length l)
+read_size l r e =
+    let s = read_says l r e in
+    let long : start_of s.kind + size_in s.kind l ≡ r.length = ap (λ (x : Recorded). x.length) s.whole in
+    let least : head_of s.kind ≤ start_of s.kind = head_start s.kind in
+    (omega (arith, long, least), omega (arith, long, s.room))
+
+pub read_parts : (l : List ℕ) (r : Recorded) → read_of l ≡ Some r → r.start + r.size ≡ r.length
+read_parts l r e =
+    let P : Recorded → Type 0 = λ x. x.start + x.size ≡ x.length in
+    subst P (read_says l r e).whole refl

@@ -1,7 +1,6 @@
 -- Records worked out by hand from docs/CALLS.md.
-use Rattle.std.specs.Prelude.{ℕ, ◌≡◌, List, [], ◌∷◌, false, replicate}
+use Rattle.std.specs.Prelude.{ℕ, ◌≡◌, List, [], ◌∷◌, replicate, None, option_map, Some}
 use Rattle.hub.specs.Call.{Control, Poll, Start, Complete, Launch, Deliver, Event, Tick, BusReset}
-use Rattle.call_bytes.specs.Table.{is_known}
 use Rattle.call_bytes.specs.Written.{written}
 use Rattle.call_bytes.specs.Read.{read_of, call_in}
 
@@ -12,7 +11,7 @@ start_bytes =
 
 pub record RecordCases : Type 0 where
   pub start_written : written (Start 1 9 2 0 0 5 1 []) ≡ start_bytes
-  pub start_read : call_in (read_of start_bytes) start_bytes ≡ Start 1 9 2 0 0 5 1 []
+  pub start_read : option_map (λ r. call_in r start_bytes) (read_of start_bytes) ≡ Some (Start 1 9 2 0 0 5 1 [])
   -- SetConfiguration 1 from lane 0, with 64 bytes of reply space
   pub control_written : written (Control 0 (0 ∷ 9 ∷ 1 ∷ 0 ∷ 0 ∷ 0 ∷ 0 ∷ 0 ∷ []) 64)
       ≡ 1 ∷ 0 ∷ 0 ∷ 0 ∷ 0 ∷ 64 ∷ 0 ∷ 0 ∷ 0 ∷ 8 ∷ 0 ∷ 0 ∷ 9 ∷ 1 ∷ 0 ∷ 0 ∷ 0 ∷ 0 ∷ 0 ∷ []
@@ -30,8 +29,8 @@ pub record RecordCases : Type 0 where
   pub tick_written : written Tick ≡ 8 ∷ []
   pub reset_written : written BusReset ≡ 9 ∷ []
   -- no call: no bytes, tag 0, tag 10, a poll that lacks its last byte, a delivery whose count is larger than its bytes
-  pub no_bytes : is_known (read_of []).kind ≡ false
-  pub tag_zero : is_known (read_of (0 ∷ [])).kind ≡ false
-  pub tag_ten : is_known (read_of (10 ∷ [])).kind ≡ false
-  pub poll_cut : is_known (read_of (2 ∷ 2 ∷ 0 ∷ 0 ∷ 0 ∷ 10 ∷ 0 ∷ 0 ∷ [])).kind ≡ false
-  pub deliver_cut : is_known (read_of (6 ∷ 3 ∷ 0 ∷ 0 ∷ 0 ∷ 2 ∷ 0 ∷ 7 ∷ [])).kind ≡ false
+  pub no_bytes : read_of [] ≡ None
+  pub tag_zero : read_of (0 ∷ []) ≡ None
+  pub tag_ten : read_of (10 ∷ []) ≡ None
+  pub poll_cut : read_of (2 ∷ 2 ∷ 0 ∷ 0 ∷ 0 ∷ 10 ∷ 0 ∷ 0 ∷ []) ≡ None
+  pub deliver_cut : read_of (6 ∷ 3 ∷ 0 ∷ 0 ∷ 0 ∷ 2 ∷ 0 ∷ 7 ∷ []) ≡ None

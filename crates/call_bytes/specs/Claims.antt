@@ -1,15 +1,17 @@
 -- Reading a record is exact. A reader must believe: the written form of a call (Written.antt), and these statements.
-use Rattle.std.specs.Prelude.{ℕ, ◌+◌, ◌≤◌, ◌≡◌, ◌↔◌, List, ◌++◌, true, false, length, take}
+use Rattle.std.specs.Prelude.{ℕ, ◌+◌, ◌≤◌, ◌≡◌, ◌↔◌, List, ◌++◌, length, take, Some, None}
 use Rattle.hub.specs.Call.{Call}
-use Rattle.call_bytes.specs.Table.{form_of, is_known}
+use Rattle.call_bytes.specs.declared.Recorded.{Recorded}
+use Rattle.call_bytes.specs.Table.{form_of}
 use Rattle.call_bytes.specs.Written.{written, Bytes, Fits}
 use Rattle.call_bytes.specs.Read.{read_of, call_in}
 
 -- l starts with a record: the call c, n bytes long
 pub record Takes (l : List ℕ) (c : Call) (n : ℕ) : Type 0 where
-  pub known : is_known (read_of l).kind ≡ true
-  pub call : call_in (read_of l) l ≡ c
-  pub size : (read_of l).length ≡ n
+  pub record_read : Recorded
+  pub known : read_of l ≡ Some record_read
+  pub call : call_in record_read l ≡ c
+  pub size : record_read.length ≡ n
 
 -- the first n bytes of l are the written form of c
 pub record Starts (l : List ℕ) (c : Call) (n : ℕ) : Type 0 where
@@ -21,7 +23,7 @@ pub record RecordExact : Type 0 where
   -- a record is taken exactly if it is the written form of a call
   pub exact : (l : List ℕ) (c : Call) (n : ℕ) → Bytes l → Takes l c n ↔ Starts l c n
   -- and refused exactly if it is that of none
-  pub refused : (l : List ℕ) → Bytes l → is_known (read_of l).kind ≡ false ↔ ((c : Call) (n : ℕ) → ¬ (Starts l c n))
+  pub refused : (l : List ℕ) → Bytes l → (read_of l ≡ None) ↔ ((c : Call) (n : ℕ) → ¬ (Starts l c n))
   -- writing then reading gives the call back, whatever follows
   pub again : (c : Call) (l : List ℕ) → Fits c → Takes (written c ++ l) c (length (written c))
   -- a different form for each call

@@ -1,6 +1,6 @@
 -- The table of docs/CALLS.md. A reader must believe: for each call its tag, how many numbers it has and whether setup or payload bytes
 -- follow, and which number is which, in the order of its C function. A new call is a row more in each list here.
-use Rattle.std.specs.Prelude.{ℕ, List, [], ◌∷◌, Bool, true, false, cond, not, eqb, get_or}
+use Rattle.std.specs.Prelude.{ℕ, List, [], ◌∷◌, Bool, true, false, cond, eqb, get_or, Option, Some, None}
 use Rattle.hub.specs.Call.{Call, Control, Poll, Start, Complete, Launch, Deliver, Event, Tick, BusReset}
 use Rattle.call_bytes.specs.declared.CallKind.{CallKind}
 use Rattle.call_bytes.specs.declared.CallKind.TheVariants as kind
@@ -9,9 +9,8 @@ use Rattle.call_bytes.specs.declared.Layout.{Layout}
 abbrev pub laid : ℕ → ℕ → Bool → Layout
 laid t n b = record { tag = t; numbers = n; bytes = b }
 
--- tag, how many numbers, whether bytes follow; tag 0 is no call
+-- tag, how many numbers, whether bytes follow
 abbrev pub layout_of : CallKind → Layout
-layout_of kind.Unknown = laid 0 0 false
 layout_of kind.Control = laid 1 2 true
 layout_of kind.Poll = laid 2 2 false
 layout_of kind.StartSplit = laid 3 7 true
@@ -30,9 +29,6 @@ numbers_of k = (layout_of k).numbers
 
 abbrev pub carries : CallKind → Bool
 carries k = (layout_of k).bytes
-
-abbrev pub is_known : CallKind → Bool
-is_known k = not (eqb (tag_of k) 0)
 
 -- ---- a call's kind, numbers and bytes
 
@@ -59,17 +55,16 @@ abbrev pub kinds : List CallKind
 kinds =
     kind.Control ∷ kind.Poll ∷ kind.StartSplit ∷ kind.CompleteSplit ∷ kind.Launch ∷ kind.Deliver ∷ kind.LineEvent ∷ kind.Tick ∷ kind.BusReset ∷ []
 
--- the first one with the tag t
-unfoldable pub with_tag : ℕ → List CallKind → CallKind
-with_tag t [] = kind.Unknown
-with_tag t (k ∷ ks) = cond (eqb t (tag_of k)) k (with_tag t ks)
+-- the first one with the tag t, or none
+unfoldable pub with_tag : ℕ → List CallKind → Option CallKind
+with_tag t [] = None
+with_tag t (k ∷ ks) = cond (eqb t (tag_of k)) (Some k) (with_tag t ks)
 
-unfoldable pub kind_of : ℕ → CallKind
+unfoldable pub kind_of : ℕ → Option CallKind
 kind_of t = with_tag t kinds
 
--- the call of a kind, its numbers and bytes; no call has the kind Unknown, for which a tick stands
+-- the call of a kind, its numbers and bytes
 abbrev pub call_of : CallKind → List ℕ → List ℕ → Call
-call_of kind.Unknown ns l = Tick
 call_of kind.Control ns l = Control (get_or ns 0 0) l (get_or ns 1 0)
 call_of kind.Poll ns l = Poll (get_or ns 0 0) (get_or ns 1 0)
 call_of kind.StartSplit ns l = Start (get_or ns 0 0) (get_or ns 1 0) (get_or ns 2 0) (get_or ns 3 0) (get_or ns 4 0) (get_or ns 5 0) (get_or ns 6 0) l

@@ -3,15 +3,16 @@
 
 ghost use Rattle.std.specs.Prelude.{◌≡◌, ◌+◌, ◌*◌, ◌≤◌, ◌<◌, length, get_or};
 ghost use Rattle.call_bytes.specs.Words.{word_at, half_at, words_at};
-ghost use Rattle.call_bytes.specs.Table.{laid, layout_of, kind_of, numbers_of, carries, is_known};
+ghost use Rattle.call_bytes.specs.Table.{laid, layout_of, kind_of};
 ghost use Rattle.call_bytes.specs.Claims.{RecordExact};
-ghost use Rattle.call_bytes.specs.Read.{start_of, size_in, seven, recorded_as, no_record, read_of};
+ghost use Rattle.call_bytes.specs.Read.{start_of, size_in, seven, recorded_as, read_of};
 ghost use Rattle.call_bytes.specs.Cases.{RecordCases};
 
+use std::array;
+
 // The calls.
-#[derive(Clone, Copy)]
+#[derive(Clone, Copy, PartialEq, Eq)]
 pub enum CallKind {
-    Unknown,
     Control,
     Poll,
     StartSplit,
@@ -32,7 +33,6 @@ pub struct Layout {
 }
 
 // One record: its call's kind and numbers, where its setup or payload bytes start and how many they are, and the record's length.
-// Unknown if there is none.
 #[derive(Clone, Copy)]
 pub struct Recorded {
     pub kind: CallKind,
@@ -44,24 +44,6 @@ pub struct Recorded {
 
 // ---- the table
 
-#[tactic(auto, unfolding(crate::specs::Table::kind_of, crate::specs::Table::with_tag))]
-fn kind_of(tag: u8) -> CallKind
-    ensures { result ≡ kind_of tag }
-{
-    match tag {
-        1 => CallKind::Control,
-        2 => CallKind::Poll,
-        3 => CallKind::StartSplit,
-        4 => CallKind::CompleteSplit,
-        5 => CallKind::Launch,
-        6 => CallKind::Deliver,
-        7 => CallKind::LineEvent,
-        8 => CallKind::Tick,
-        9 => CallKind::BusReset,
-        _ => CallKind::Unknown,
-    }
-}
-
 fn laid(tag: u8, numbers: usize, bytes: bool) -> Layout
     ensures { result ≡ laid tag numbers bytes }
 {
@@ -72,71 +54,86 @@ fn laid(tag: u8, numbers: usize, bytes: bool) -> Layout
     }
 }
 
-fn layout_of(kind: CallKind) -> Layout
-    ensures { (result ≡ layout_of kind) × (result.numbers ≤ 7) }
-{
-    match kind {
-        CallKind::Unknown => laid(0, 0, false),
-        CallKind::Control => laid(1, 2, true),
-        CallKind::Poll => laid(2, 2, false),
-        CallKind::StartSplit => laid(3, 7, true),
-        CallKind::CompleteSplit => laid(4, 5, false),
-        CallKind::Launch => laid(5, 1, false),
-        CallKind::Deliver => laid(6, 1, true),
-        CallKind::LineEvent => laid(7, 2, false),
-        CallKind::Tick => laid(8, 0, false),
-        CallKind::BusReset => laid(9, 0, false),
+impl CallKind {
+    #[tactic(auto, unfolding(crate::specs::Table::kind_of, crate::specs::Table::with_tag))]
+    fn tagged(tag: u8) -> Option<CallKind>
+        ensures { result ≡ kind_of tag }
+    {
+        let kind = match tag {
+            1 => CallKind::Control,
+            2 => CallKind::Poll,
+            3 => CallKind::StartSplit,
+            4 => CallKind::CompleteSplit,
+            5 => CallKind::Launch,
+            6 => CallKind::Deliver,
+            7 => CallKind::LineEvent,
+            8 => CallKind::Tick,
+            9 => CallKind::BusReset,
+            _ => return None,
+        };
+        Some(kind)
+    }
+
+    fn layout(self) -> Layout
+        ensures { (result ≡ layout_of self) × (result.numbers ≤ 7) }
+    {
+        match self {
+            CallKind::Control => laid(1, 2, true),
+            CallKind::Poll => laid(2, 2, false),
+            CallKind::StartSplit => laid(3, 7, true),
+            CallKind::CompleteSplit => laid(4, 5, false),
+            CallKind::Launch => laid(5, 1, false),
+            CallKind::Deliver => laid(6, 1, true),
+            CallKind::LineEvent => laid(7, 2, false),
+            CallKind::Tick => laid(8, 0, false),
+            CallKind::BusReset => laid(9, 0, false),
+        }
+    }
+
+    // Where the record's setup or payload bytes start.
+    fn start(self) -> usize
+        ensures { (result ≡ start_of self) × (result ≤ 31) }
+    {
+        let layout = self.layout();
+        let head = 1 + 4 * layout.numbers;
+        if layout.bytes { head + 2 } else { head }
+    }
+
+    // What the bytes hold after the numbers: how many setup or payload bytes.
+    fn size_in(self, s: &[u8]) -> usize
+        ensures { (result ≡ size_in self s.now) × (result < 65536) }
+    {
+        let layout = self.layout();
+        if layout.bytes {
+            let head = 1 + 4 * layout.numbers;
+            usize::from(half_at(s, head as u32))
+        } else {
+            0
+        }
     }
 }
 
-fn numbers_of(kind: CallKind) -> usize
-    ensures { (result ≡ numbers_of kind) × (result ≤ 7) }
-{
-    layout_of(kind).numbers
-}
-
-fn has_bytes(kind: CallKind) -> bool
-    ensures { result ≡ carries kind }
-{
-    layout_of(kind).bytes
-}
-
-pub fn is_known(kind: CallKind) -> bool
-    ensures { result ≡ is_known kind }
-{
-    layout_of(kind).tag != 0
-}
-
 // ---- numbers
-
-fn wide(x: u8) -> u32
-    ensures { (result ≡ x) × (result < 256) }
-{
-    x as u32
-}
 
 fn word_at(s: &[u8], at: usize) -> u32
     requires { at + 4 ≤ length s.now }
     ensures { result ≡ word_at s.now at }
 {
-    wide(s[at]) + wide(s[at + 1]) * 256 + wide(s[at + 2]) * 65536 + wide(s[at + 3]) * 16777216
+    u32::from_le_bytes([s[at], s[at + 1], s[at + 2], s[at + 3]])
 }
 
 // Past the last byte, 0.
 fn byte_at(s: &[u8], at: usize) -> u8
     ensures { result ≡ get_or s.now at 0 }
 {
-    if at < s.len() {
-        return s[at];
-    }
-    0
+    s.get(at).copied().unwrap_or(0)
 }
 
-pub fn half_at(s: &[u8], at: u32) -> u32
-    ensures { (result ≡ half_at s.now at) × (result < 65536) }
+pub fn half_at(s: &[u8], at: u32) -> u16
+    ensures { result ≡ half_at s.now at }
 {
     let at = at as usize;
-    wide(byte_at(s, at)) + wide(byte_at(s, at + 1)) * 256
+    u16::from_le_bytes([byte_at(s, at), byte_at(s, at + 1)])
 }
 
 // Number i of n; past the last one, 0.
@@ -144,95 +141,48 @@ fn number(s: &[u8], n: usize, i: usize) -> u32
     requires { (n ≤ 7) × (1 + 4 * n ≤ length s.now) }
     ensures { result ≡ get_or (words_at s.now 1 n) i 0 }
 {
-    if i < n {
-        return word_at(s, 1 + 4 * i);
-    }
-    0
+    if i < n { word_at(s, 1 + 4 * i) } else { 0 }
 }
 
 fn numbers(s: &[u8], n: usize) -> [u32; 7]
     requires { (n ≤ 7) × (1 + 4 * n ≤ length s.now) }
     ensures { result ≡ seven (words_at s.now 1 n) }
 {
-    let a = number(s, n, 0);
-    let b = number(s, n, 1);
-    let c = number(s, n, 2);
-    let d = number(s, n, 3);
-    let e = number(s, n, 4);
-    let f = number(s, n, 5);
-    let g = number(s, n, 6);
-    [a, b, c, d, e, f, g]
+    array::from_fn(|i| number(s, n, i))
 }
 
 // ---- one record
 
-fn no_record() -> Recorded
-    ensures { result ≡ no_record }
-{
-    Recorded {
-        kind: CallKind::Unknown,
-        numbers: [0; 7],
-        start: 0,
-        size: 0,
-        length: 0,
+impl Recorded {
+    fn new(s: &[u8], kind: CallKind, start: usize, size: usize) -> Recorded
+        requires { (start ≡ start_of kind) × ((size ≡ size_in kind s.now) × (start + size ≤ length s.now)) }
+        ensures { result ≡ recorded_as kind s.now }
+    {
+        Recorded {
+            kind,
+            numbers: numbers(s, kind.layout().numbers),
+            start,
+            size,
+            length: start + size,
+        }
     }
 }
 
-// What the bytes hold after the numbers: how many setup or payload bytes.
-fn size_in(s: &[u8], kind: CallKind) -> usize
-    ensures { (result ≡ size_in kind s.now) × (result < 65536) }
-{
-    if has_bytes(kind) {
-        let head = 1 + 4 * numbers_of(kind);
-        return half_at(s, head as u32) as usize;
-    }
-    0
-}
-
-fn start_of(kind: CallKind) -> usize
-    ensures { (result ≡ start_of kind) × (result ≤ 31) }
-{
-    let head = 1 + 4 * numbers_of(kind);
-    if has_bytes(kind) {
-        return head + 2;
-    }
-    head
-}
-
-fn recorded_as(s: &[u8], kind: CallKind, start: usize, size: usize) -> Recorded
-    requires { (start ≡ start_of kind) × ((size ≡ size_in kind s.now) × (start + size ≤ length s.now)) }
-    ensures { result ≡ recorded_as kind s.now }
-{
-    let numbers = numbers(s, numbers_of(kind));
-    Recorded {
-        kind,
-        numbers,
-        start,
-        size,
-        length: start + size,
-    }
-}
-
-// The record at the start of the bytes.
-pub fn read_record(s: &[u8]) -> Recorded
+// The record at the start of the bytes. No bytes have tag 0, which is no call's.
+#[tactic(auto, unfolding(crate::specs::Read::read_of))]
+pub fn read_record(s: &[u8]) -> Option<Recorded>
     ensures { result ≡ read_of s.now }
 {
-    if s.len() == 0 {
-        return no_record();
-    }
-    let kind = kind_of(s[0]);
-    let start = start_of(kind);
-    if !is_known(kind) {
-        return no_record();
-    }
+    let kind = CallKind::tagged(byte_at(s, 0))?;
+    let start = kind.start();
     if s.len() < start {
-        return no_record();
+        return None;
     }
-    let size = size_in(s, kind);
+    let size = kind.size_in(s);
     if s.len() < start + size {
-        return no_record();
+        return None;
     }
-    recorded_as(s, kind, start, size)
+    Some(Recorded::new(s, kind, start, size))
 }
 
 fn record_exact()

@@ -29,12 +29,13 @@ ghost use Rattle.chart.specs.Mistakes.{ChartMistakesShutOut};
 mod table;
 
 use port::{
-    ChangeBit, Changes, ClearableFeature, Input, LineEvent, Port, PortState, SettableFeature, Speed,
+    ChangeBit, Changes, ClearableFeature, Input, LineEvent, NotInThisState, Port, PortState,
+    SettableFeature, Speed,
 };
 use table::CHART;
 
 // The port afterwards, and the number that is answered.
-#[derive(Clone, Copy)]
+#[derive(Clone, Copy, PartialEq, Eq)]
 pub struct PortAnswer {
     pub port: Port,
     pub number: u8,
@@ -52,54 +53,39 @@ pub fn chart() -> [u32; 1104]
 pub fn look_up(chart: &[u32; 1104], port: Port, input: Input) -> PortAnswer
     ensures { answered result ≡ looked_up chart.now port input }
 {
-    let at = index(port, input);
-    let cell = chart[at];
-    read(port, input, cell)
+    read(port, input, chart[index(port, input)])
 }
 
 // The second engine on the chart. It has the chart anew for each input; a caller with many inputs has it once and looks them up.
 pub fn by_chart(port: Port, input: Input) -> PortAnswer
     ensures { answered result ≡ by_rules port input }
 {
-    let chart = chart();
-    look_up(&chart, port, input)
+    look_up(&chart(), port, input)
 }
 
 // The first engine, as the hub uses it: a port request is answered 2 where the port is Not Configured, since the hub is unconfigured then.
 pub fn by_rules(port: Port, input: Input) -> PortAnswer
     ensures { answered result ≡ by_rules port input }
 {
-    let state = port.state;
-    if bools::both(is_port_request(input), state.number() == 0) {
+    if is_port_request(input) && port.state == PortState::NotConfigured {
         return PortAnswer { port, number: 2 };
     }
-    let stepped = port.step(input);
-    let next = stepped.port;
-    let answer = stepped.answer;
-    PortAnswer {
-        port: next,
-        number: answer.number(),
+    match port.step(input) {
+        Ok(next) => PortAnswer {
+            port: next,
+            number: 0,
+        },
+        Err(NotInThisState) => PortAnswer { port, number: 8 },
     }
 }
 
 fn is_port_request(input: Input) -> bool
     ensures { result ≡ is_port_request input }
 {
-    match input {
-        Input::Event(_) => false,
-        Input::Tick => false,
-        Input::SetFeature(_) => true,
-        Input::ClearFeature(_) => true,
-        Input::Configure => false,
-        Input::Unconfigure => false,
-        Input::BusReset => false,
-    }
+    matches!(input, Input::SetFeature(_) | Input::ClearFeature(_))
 }
 
 // ---- the 23 columns
-
-// That of the tick.
-const TICK: usize = 8;
 
 fn event_column(event: LineEvent) -> usize
     ensures value { result ≡ event_column event }
@@ -159,7 +145,7 @@ fn column(input: Input) -> usize
 {
     match input {
         Input::Event(event) => event_column(event),
-        Input::Tick => TICK,
+        Input::Tick => 8,
         Input::SetFeature(feature) => set_column(feature),
         Input::ClearFeature(feature) => clear_column(feature),
         Input::Unconfigure => 20,
@@ -211,10 +197,9 @@ fn index(port: Port, input: Input) -> usize
     ensures value { result ≡ index_of (runs_on port.state) port input }
     ensures small { result < 1104 }
 {
-    let state = port.state;
-    let ends = bools::bit_of(!runs_on(state)) as usize;
+    let ends = bools::bit_of(!runs_on(port.state)) as usize;
     let level = bools::bit_of(port.overcurrent) as usize;
-    let line = level * 24 + situation(state, ends);
+    let line = level * 24 + situation(port.state, ends);
     line * 23 + column(input)
 }
 
@@ -224,13 +209,12 @@ fn index(port: Port, input: Input) -> usize
 fn ticks_after(state: PortState, number: u8, tick: bool) -> u8
     ensures { result ≡ ticks_after (runs_on state) state number tick }
 {
-    let ticks = state.ticks();
-    if number == state.number() {
-        if tick {
-            if runs_on(state) { ticks + 1 } else { 0 }
-        } else {
-            ticks
-        }
+    if number != state.number() {
+        0
+    } else if !tick {
+        state.ticks()
+    } else if runs_on(state) {
+        state.ticks() + 1
     } else {
         0
     }
@@ -241,13 +225,7 @@ fn ticks_after(state: PortState, number: u8, tick: bool) -> u8
 fn bit_after(set: bool, cleared: bool, before: bool) -> bool
     ensures { result ≡ bit_after set cleared before }
 {
-    if set {
-        return true;
-    }
-    if cleared {
-        return false;
-    }
-    before
+    set || !cleared && before
 }
 
 // The bits that are set and those that are cleared, as in the change byte of GetPortStatus.
@@ -267,15 +245,13 @@ fn bits_after(set: u32, cleared: u32, before: Changes) -> Changes
 fn read(port: Port, input: Input, cell: u32) -> PortAnswer
     ensures { answered result ≡ read (runs_on port.state) port input cell }
 {
-    let state = port.state;
-    let changes = port.changes;
     let number = (cell / 0x1000_0000 % 16) as u8;
     let speed = port::speed_of((cell / 0x100_0000 % 16) as u8);
-    let ticks = ticks_after(state, number, column(input) == TICK);
+    let ticks = ticks_after(port.state, number, input == Input::Tick);
     let next = Port {
         state: port::state_of(number, speed, ticks),
         overcurrent: cell / 0x10_0000 % 16 == 1,
-        changes: bits_after(cell / 0x1000 % 256, cell / 16 % 256, changes),
+        changes: bits_after(cell / 0x1000 % 256, cell / 16 % 256, port.changes),
     };
     PortAnswer {
         port: next,
@@ -322,13 +298,10 @@ pub fn port_at(line: usize) -> Port
     ensures result_value { line_of (runs_on result.state) result ≡ line % 48 }
     ensures quiet { result.changes ≡ no_changes }
 {
-    let state = state_at(line % 24);
-    let new = Port::new();
-    let changes = new.changes;
     Port {
-        state,
+        state: state_at(line % 24),
         overcurrent: line / 24 % 2 == 1,
-        changes,
+        ..Port::new()
     }
 }
 

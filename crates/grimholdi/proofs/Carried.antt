@@ -8,8 +8,10 @@ use lib.Dec.{eqb, leb}
 use lib.ListN.{length, take, drop, length-append, length-drop}
 use lib.Seq.{take_all, take-append_seam}
 use borrow.Author.Tests.{leb-true}
+use Rattle.std.specs.Prelude.{Option, unwrap_or}
 use Rattle.payload.specs.Payload as payload
 use Rattle.hub.specs.declared.Hub.{Hub}
+use Rattle.hub.specs.Hub.{hub_of}
 use Rattle.hub.specs.Call as hub
 use Rattle.hub.specs.Call.{Call, Control, Poll, Start, Complete, Launch, Deliver, Event as LineEvent, Tick, BusReset, Outcome, refuse}
 use Rattle.hub.specs.Checks.{within, has_space, not_silent, fitting, first_refusal}
@@ -33,8 +35,7 @@ use Rattle.runs.proofs.Reaching.{reached}
 use Rattle.runs.proofs.Tallied.{tally_holds}
 use Rattle.runs.proofs.Sharing.{lane_share}
 use Rattle.area.specs.Written.{written}
-use Rattle.area.specs.declared.Read.{Read}
-use Rattle.area.specs.Read.{read_of}
+use Rattle.area.specs.Read.{hub_read}
 use Rattle.area.proofs.Exact.{area_exact_lem}
 use Rattle.grimholdi.specs.Outcome.{EntryOutcome}
 use Rattle.grimholdi.specs.Entry.{carried_out}
@@ -102,7 +103,7 @@ module _ (h : Hub) (v : ValidHub h) where
   -- ---- one entry on the written form of a valid hub
 
   pub gives_taken : (x : Asked) → gives (written h) x ≡ carried_out (step h (call_of x)) (reply_of x)
-  gives_taken x = entry_taken (written h) (record { ok = true; hub = h }) (sym (area_exact_lem.again h v)) refl (call_of x) (reply_of x)
+  gives_taken x = entry_taken (written h) h (sym (area_exact_lem.again h v)) (call_of x) (reply_of x)
 
   pub answer_same : (x : Asked) → seen (gives (written h) x) ≡ (step h (call_of x)).answer
   answer_same x =
@@ -183,12 +184,12 @@ module _ (w : Machine) (d : Demand2 w) where
       }
 
 -- the hub that is read from the area is the one that the rules leave
-pub read-reached : (m : NewArea) (xs : List Asked) → (read_of (after_from entries (filled m) xs)).hub ≡ after_from rules (new_hub_of m.numbers) (map call_of xs)
+pub read-reached : (m : NewArea) (xs : List Asked) → hub_read (after_from entries (filled m) xs) ≡ after_from rules (new_hub_of m.numbers) (map call_of xs)
 read-reached m xs =
-    ap (λ (a : List ℕ). (read_of a).hub) (area_follows m xs)
-    ∙ ap (λ (r : Read). r.hub) (area_exact_lem.again (after_from rules (new_hub_of m.numbers) (map call_of xs)) (reached m.numbers (map call_of xs)))
+    ap hub_read (area_follows m xs)
+    ∙ ap (λ (r : Option Hub). unwrap_or r (hub_of 0 0 0 0 0)) (area_exact_lem.again (after_from rules (new_hub_of m.numbers) (map call_of xs)) (reached m.numbers (map call_of xs)))
 
-pub carried_tally : TallyHolds entries (λ a. active_buffers (read_of a).hub)
+pub carried_tally : TallyHolds entries (λ a. active_buffers (hub_read a))
 carried_tally m xs =
     subst (λ (h : Hub). (tally_of (past [] (run entries m xs))).stored ≡ (tally_of (past [] (run entries m xs))).answered + (tally_of (past [] (run entries m xs))).emptied + active_buffers h)
     (sym (read-reached m xs))

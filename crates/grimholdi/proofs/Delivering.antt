@@ -13,20 +13,22 @@ use Rattle.buffer.specs.declared.Slot.TheVariants.{Empty, Pending, Ready, Old}
 use Rattle.buffer.specs.declared.Buffer.{Buffer}
 use Rattle.buffer.specs.declared.BufferNumber.{BufferNumber}
 use Rattle.buffer.specs.Lengths.{result_length, suits}
+use Rattle.std.specs.Prelude.{Ok}
 use Rattle.translator.specs.declared.LowSide.{LowSide}
 use Rattle.translator.specs.declared.LowSide.TheVariants.{Idle, Running, Abandoned}
 use Rattle.translator.specs.declared.Translator.{Translator}
-use Rattle.translator.specs.declared.DeliverAnswer.TheVariants.{Outside, NotInThisState, Done}
+use Rattle.translator.specs.declared.NotDelivered.TheVariants.{Outside, NotInThisState}
 use Rattle.translator.specs.declared.Delivered.{Delivered}
 use Rattle.translator.specs.Answers.{deliver_number}
 use Rattle.translator.specs.Translator.{at, with_low}
 use Rattle.translator.specs.Deliver.{undelivered, delivered, deliver_by, deliver}
 use Rattle.numbers.specs.Named.{is_result, result_from}
+use Rattle.hub.specs.declared.Refusal.{Refusal}
 use Rattle.hub.specs.declared.Hub.{Hub}
 use Rattle.hub.specs.Hub.{with_translator}
 use Rattle.hub.specs.Call.{Call, Deliver, plain}
 use Rattle.hub.specs.Rules.{delivered_as}
-use Rattle.hub.specs.Checks.{within, has_space, not_silent, fitting, first_refusal}
+use Rattle.hub.specs.Checks.{within, has_space, not_silent, fitting, refusal_number, first_refusal}
 use Rattle.hub.specs.Step.{served, step}
 use Rattle.hub.proofs.Numbers.{right}
 use Rattle.area.specs.Written.{written as form_of}
@@ -61,7 +63,7 @@ module _ (h : Hub) (r : DeviceResult) (l : List ℕ) where
   unfit_by false low e = absurd (true≢false e)
 
 module _ (a : List ℕ) (ok : accepts a ≡ true) (hd : Head) (e : hd ≡ head_at a) (result : ℕ) (l : List ℕ) (k : DeviceResult) (ek : k ≡ result_from result)
-    {w : Bool} (ew : w ≡ (is_result result && result_length k (length l))) {n : ℕ} (g : n ≡ first_refusal w true hd.configured true) where
+    {w : Bool} (ew : w ≡ (is_result result && result_length k (length l))) where
   abbrev h : Hub
   h = hub_in a ok
 
@@ -75,13 +77,13 @@ module _ (a : List ℕ) (ok : accepts a ≡ true) (hd : Head) (e : hd ≡ head_a
   unfolding within
   within_is = ew ∙ ap (λ (x : DeviceResult). is_result result && result_length x (length l)) ek
 
-  pub deliver_refused : ¬ (n ≡ 0) → (x : Answer) → x ≡ plain_struct n → Leaves a call x a
+  pub deliver_refused : (i : Refusal) → refusal_number i ≡ first_refusal w true hd.configured true → (x : Answer) → x ≡ plain_struct (refusal_number i) → Leaves a call x a
   unfolding has_space not_silent
-  deliver_refused z x ex = rests a ok call n (early a ok call g within_is refl (configured_is a ok hd e) z) x ex
+  deliver_refused i g x ex = rests a ok call (refusal_number i) (early a ok call within_is refl (configured_is a ok hd e) i g) x ex
 
-  module _ (z : n ≡ 0) where
+  module _ (g : 0 ≡ first_refusal w true hd.configured true) where
     long_enough : result_length (result_from result) (length l) ≡ true
-    long_enough = right (is_result result) (result_length (result_from result) (length l)) (sym within_of ∙ all_held w true hd.configured (sym z ∙ g))
+    long_enough = right (is_result result) (result_length (result_from result) (length l)) (sym within_of ∙ all_held w true hd.configured g)
       where
         within_of : w ≡ (is_result result && result_length (result_from result) (length l))
         within_of = ew ∙ ap (λ (x : DeviceResult). is_result result && result_length x (length l)) ek
@@ -89,7 +91,7 @@ module _ (a : List ℕ) (ok : accepts a ≡ true) (hd : Head) (e : hd ≡ head_a
     served_is : step h call ≡ delivered_as h (deliver_by t k l hd.low)
     unfolding has_space not_silent fitting served deliver
     served_is =
-        ruled a ok call g within_is refl (configured_is a ok hd e) z (unfit_by h (result_from result) l (result_length (result_from result) (length l)) t.low)
+        ruled a ok call within_is refl (configured_is a ok hd e) g (unfit_by h (result_from result) l (result_length (result_from result) (length l)) t.low)
         ∙ ap (λ (b : Bool). delivered_as h (cond b (deliver_by t (result_from result) l t.low) (undelivered t Outside))) long_enough
         ∙ ap (λ (x : DeviceResult). delivered_as h (deliver_by t x l t.low)) (sym ek)
         ∙ ap (λ (x : Head). delivered_as h (deliver_by t k l x.low)) (sym (head_is a ok hd e))
@@ -127,7 +129,7 @@ module _ (a : List ℕ) (ok : accepts a ≡ true) (hd : Head) (e : hd ≡ head_a
         ready =
             record {
               next = record { buffers = set t.buffers m.0 (record { slot = Ready p k; payload = payload_of l }); count = t.count; low = Idle };
-              answer = Done;
+              answer = Ok tt;
             }
 
         by_test : (b : Bool) → f ≡ b → step h call ≡ delivered_as h (cond b ready (undelivered t NotInThisState))

@@ -21,7 +21,7 @@ use Rattle.isolation.proofs.Setting.{erased}
 use Rattle.isolation.proofs.Isolated.{all_but, reached_same, answers_same, carried}
 use Rattle.payload.specs.Bytes.{flat}
 use Rattle.area.specs.Written.{port_bytes, buffer_bytes, head_bytes, written, area_length}
-use Rattle.area.specs.Read.{read_of}
+use Rattle.area.specs.Read.{hub_read}
 use Rattle.area.proofs.Exact.{area_exact_lem}
 use Rattle.grimholdi.specs.Asked.{Asked, call_of}
 use Rattle.grimholdi.specs.Runs.{NewArea, filled, entries}
@@ -121,12 +121,12 @@ module _ (p : PortNumber) (m n : NewArea) (xs ys : List Asked) (t : Matching ent
   same : erased p (hub_left m xs) ≡ erased p (hub_left n ys)
   same = reached_same p m.numbers n.numbers (map call_of xs) (map call_of ys) t.new_hubs t.left
 
-  hubs_same : SameBut p (read_of (area_left m xs)).hub (read_of (area_left n ys)).hub
+  hubs_same : SameBut p (hub_read (area_left m xs)) (hub_read (area_left n ys))
   hubs_same = rw (read-reached m xs, read-reached n ys) (all_but p (hub_left m xs) (hub_left n ys) same)
 
-  entries_same : SameAnswers entries (λ a. (read_of a).hub) p (area_left m xs) (area_left n ys)
+  entries_same : SameAnswers entries hub_read p (area_left m xs) (area_left n ys)
   entries_same =
-      carried entries (λ a. (read_of a).hub) p (area_left m xs) (area_left n ys) (hub_left m xs) (hub_left n ys)
+      carried entries hub_read p (area_left m xs) (area_left n ys) (hub_left m xs) (hub_left n ys)
       (read-reached m xs) (read-reached n ys) (answered m xs) (answered n ys)
       (answers_same p (hub_left m xs) (hub_left n ys) (valid m xs) (valid n ys) same)
 

@@ -3,9 +3,9 @@ use Prim.Native.Nat.{ℕ}
 use native.Mathlib.Omega.{arith}
 use mathlib.Core.Path.{◌≡◌, refl, sym, ◌∙◌, ap, subst}
 use mathlib.Core.Logic.{◌⊎◌, inl, ⊎_elim}
-use mathlib.Core.Bool.{Bool, true, false}
 use mathlib.Core.List.{List}
 use lib.ListN.{length, drop}
+use Rattle.std.specs.Prelude.{Option, Some, None}
 use Rattle.payload.specs.Payload as payload
 use Rattle.hub.specs.declared.Hub.{Hub}
 use Rattle.hub.specs.Step.{step}
@@ -28,13 +28,13 @@ use Rattle.grimholdi.proofs.Carried.{seen_is, behind_is, same_long, fits_reply, 
 -- an area is taken or refused
 module _ (a : List ℕ) (x : Asked) (P : EntryOutcome → Type 0) where
   by_area : P (refused a (reply_of x)) → ((h : Hub) → ValidHub h → a ≡ written h → P (carried_out (step h (call_of x)) (reply_of x))) → P (gives a x)
-  by_area no-hub by-hub = go (read_of a).ok refl
+  by_area no-hub by-hub = go (read_of a) refl
     where
-      go : (b : Bool) → (read_of a).ok ≡ b → P (gives a x)
-      go true p =
-          let t = taken_hub a (read_of a) refl p in
-          subst P (sym (entry_taken a (read_of a) refl p (call_of x) (reply_of x))) (by-hub (read_of a).hub t.0 t.1)
-      go false p = subst P (sym (entry_refused a (read_of a) refl p (call_of x) (reply_of x))) no-hub
+      go : (q : Option Hub) → q ≡ read_of a → P (gives a x)
+      go (Some h) e =
+          let t = taken_hub a h e in
+          subst P (sym (entry_taken a h e (call_of x) (reply_of x))) (by-hub h t.0 t.1)
+      go None e = subst P (sym (entry_refused a e (call_of x) (reply_of x))) no-hub
 
 module _ (a : List ℕ) (x : Asked) where
   numbered : ((r : Refusal) × ((gives a x).answer.number ≡ number_of r)) ⊎ Serves (gives a x).answer.number
@@ -78,7 +78,7 @@ module _ (a : List ℕ) (x : Asked) where
 pub entry_refusals : EntryRefusals gives
 entry_refusals =
     record {
-      bad_area = λ a x n. entry_refused a (read_of a) refl ((area_exact_lem.refused a).1 n) (call_of x) (reply_of x);
+      bad_area = λ a x n. entry_refused a (sym ((area_exact_lem.refused a).1 n)) (call_of x) (reply_of x);
       exactly = λ r h x v.
           let q = ap (λ (g : EntryOutcome). g.answer.number) (gives_taken h v x) in
           let due = refusals.exactly r h (call_of x) v in

@@ -3,7 +3,7 @@ use Prim.Native.Nat.{ℕ, ◌-◌}
 use native.Mathlib.Omega.{arith}
 use mathlib.Core.Path.{◌≡◌, refl, sym, ◌∙◌, ap, subst}
 use mathlib.Core.Logic.{◌⊎◌, inl, inr, ⊎_elim}
-use mathlib.Core.Bool.{false, cond, false≢true}
+use mathlib.Core.Bool.{cond, false≢true}
 use mathlib.Core.List.{List, [], ◌∷◌, ◌++◌}
 use lib.ListN.{length, get_or, take, drop, replicate}
 use Rattle.payload.specs.Payload as payload
@@ -26,9 +26,9 @@ use Rattle.runs.specs.Refusals.{Refusal, outside, short, silent, misplaced, stal
 use Rattle.runs.proofs.Refuted.{bench, configure}
 use Rattle.payload.specs.Bytes.{flat}
 use Rattle.area_check.specs.Read.{head_fits, sized, accepts}
-use Rattle.area.specs.declared.Read.{Read}
+use Rattle.std.specs.Prelude.{Option, None, is_some}
 use Rattle.area.specs.Written.{port_bytes, buffer_bytes, head_bytes, written, area_length}
-use Rattle.area.specs.Read.{refusal, read_of}
+use Rattle.area.specs.Read.{read_of}
 use Rattle.area.proofs.Exact.{area_exact_lem}
 use Rattle.grimholdi.specs.Outcome.{EntryOutcome}
 use Rattle.grimholdi.specs.Entry.{carried_out, new_entry}
@@ -131,18 +131,18 @@ says_more claim =
 -- ---- areas
 
 -- an area that is the new hub's written form is ticked
-ticked : (b : List ℕ) (o : EntryOutcome) → b ≡ written fresh → (cond (read_of b).ok (gives b tick) o).answer.number ≡ 0
+ticked : (b : List ℕ) (o : EntryOutcome) → b ≡ written fresh → (cond (is_some (read_of b)) (gives b tick) o).answer.number ≡ 0
 unfolding step within has_space not_silent fitting served
 ticked b o e =
-    ap (λ (l : List ℕ). (cond (read_of l).ok (gives l tick) o).answer.number) e
-    ∙ ap (λ (r : Read). (cond r.ok (gives (written fresh) tick) o).answer.number) (area_exact_lem.again fresh fresh_valid)
+    ap (λ (l : List ℕ). (cond (is_some (read_of l)) (gives l tick) o).answer.number) e
+    ∙ ap (λ (r : Option Hub). (cond (is_some r) (gives (written fresh) tick) o).answer.number) (area_exact_lem.again fresh fresh_valid)
     ∙ ap (λ (g : EntryOutcome). g.answer.number) (gives_taken fresh fresh_valid tick)
 
 abbrev longer : List ℕ
 longer = written fresh ++ 0 ∷ []
 
-longer-refused : (read_of longer).ok ≡ false
-unfolding written head_bytes flat port_bytes buffer_bytes new_fits read_of refusal accepts sized head_fits
+longer-refused : read_of longer ≡ None
+unfolding written head_bytes flat port_bytes buffer_bytes new_fits read_of accepts sized head_fits
 longer-refused = refl
 
 takes_longer_lem : ¬ (EntryRefusals takes_longer)

@@ -10,20 +10,21 @@ use Rattle.buffer.specs.declared.Slot.{Slot}
 use Rattle.buffer.specs.declared.BufferNumber.{BufferNumber}
 use Rattle.buffer.specs.Key.{key_of}
 use Rattle.buffer.specs.Lengths.{start_fits}
+use Rattle.std.specs.Prelude.{Err}
 use Rattle.translator.specs.declared.Translator.{Translator}
 use Rattle.translator.specs.declared.Choice.{Choice}
 use Rattle.translator.specs.declared.Choice.TheVariants.{NoRoom, LimitReached, Held, Reused, Took}
-use Rattle.translator.specs.declared.StartAnswer.TheVariants.{Outside}
 use Rattle.translator.specs.Slots.{bare, slots_in}
 use Rattle.translator.specs.Limit.{permitted}
-use Rattle.translator.specs.StartSplit.{stored, start_by, start_split}
+use Rattle.translator.specs.StartSplit.{stored, start_by, start_split, outside}
 use Rattle.translator.proofs.Bare.{permitted-bare}
 use Rattle.numbers.specs.Split.{split_named, split_from}
+use Rattle.hub.specs.declared.Refusal.{Refusal}
 use Rattle.hub.specs.declared.Hub.{Hub}
 use Rattle.hub.specs.Hub.{with_translator}
 use Rattle.hub.specs.Call.{Call, Start}
 use Rattle.hub.specs.Rules.{started_as}
-use Rattle.hub.specs.Checks.{within, has_space, not_silent, fitting, first_refusal}
+use Rattle.hub.specs.Checks.{within, has_space, not_silent, fitting, refusal_number, first_refusal}
 use Rattle.hub.specs.Step.{served, step}
 use Rattle.hub.proofs.Numbers.{right}
 use Rattle.area_check.specs.Read.{accepts}
@@ -37,8 +38,7 @@ use Rattle.grimholdi.proofs.Taken.{hub_in, valid, form, head_is, configured_is, 
 
 module _ (a : List ℕ) (ok : accepts a ≡ true) (hd : Head) (e : hd ≡ head_at a) (lane pid transfer lowspeed toggle address endpoint : ℕ) (l : List ℕ)
     (k : StartSplit) (ek : k ≡ split_from lane pid transfer lowspeed toggle address endpoint) {w : Bool}
-    (ew : w ≡ (split_named lane pid transfer lowspeed toggle address endpoint && start_fits k (length l))) {n : ℕ}
-    (g : n ≡ first_refusal w true hd.configured true) where
+    (ew : w ≡ (split_named lane pid transfer lowspeed toggle address endpoint && start_fits k (length l))) where
   abbrev h : Hub
   h = hub_in a ok
 
@@ -52,23 +52,23 @@ module _ (a : List ℕ) (ok : accepts a ≡ true) (hd : Head) (e : hd ≡ head_a
   unfolding within
   within_is = ew ∙ ap (λ (x : StartSplit). split_named lane pid transfer lowspeed toggle address endpoint && start_fits x (length l)) ek
 
-  pub start_refused : ¬ (n ≡ 0) → (x : Answer) → x ≡ plain_struct n → Leaves a call x a
+  pub start_refused : (i : Refusal) → refusal_number i ≡ first_refusal w true hd.configured true → (x : Answer) → x ≡ plain_struct (refusal_number i) → Leaves a call x a
   unfolding has_space not_silent
-  start_refused z x ex = rests a ok call n (early a ok call g within_is refl (configured_is a ok hd e) z) x ex
+  start_refused i g x ex = rests a ok call (refusal_number i) (early a ok call within_is refl (configured_is a ok hd e) i g) x ex
 
-  module _ (z : n ≡ 0) (s : List Slot) (es : s ≡ slots_at hd.ports.0 a) (y : Key) (ey : y ≡ key_of k) {f : Choice}
+  module _ (g : 0 ≡ first_refusal w true hd.configured true) (s : List Slot) (es : s ≡ slots_at hd.ports.0 a) (y : Key) (ey : y ≡ key_of k) {f : Choice}
       (ef : f ≡ permitted hd.count.0 y (take hd.count.0 (bare s))) where
     fits : start_fits k (length l) ≡ true
     fits =
         right (split_named lane pid transfer lowspeed toggle address endpoint) (start_fits k (length l))
-        (sym ew ∙ all_held w true hd.configured (sym z ∙ g))
+        (sym ew ∙ all_held w true hd.configured g)
 
     by_choice : (b : Choice) → f ≡ b → step h call ≡ started_as h (start_by t k l b)
     unfolding has_space not_silent fitting served start_split
     by_choice b i =
-        ruled a ok call g within_is refl (configured_is a ok hd e) z (λ p. absurd (true≢false p))
+        ruled a ok call within_is refl (configured_is a ok hd e) g (λ p. absurd (true≢false p))
         ∙ ap (λ (x : StartSplit). started_as h (start_split t x l)) (sym ek)
-        ∙ ap (λ (x : Bool). started_as h (cond x (start_by t k l (permitted t.count (key_of k) (take t.count t.buffers))) (record { next = t; answer = Outside }))) fits
+        ∙ ap (λ (x : Bool). started_as h (cond x (start_by t k l (permitted t.count (key_of k) (take t.count t.buffers))) (record { next = t; answer = Err outside }))) fits
         ∙ ap (λ (x : Choice). started_as h (start_by t k l x))
         (ap (λ (x : Key). permitted t.count x (take t.count t.buffers)) (sym ey)
         ∙ sym (permitted-bare t.count y t.count t.buffers)

@@ -13,15 +13,18 @@ use Rattle.buffer.specs.declared.Buffer.{Buffer}
 use Rattle.buffer.specs.declared.BufferNumber.{BufferNumber}
 use Rattle.translator.specs.Translator.{at}
 use Rattle.translator.specs.Slots.{slots_in}
+use Rattle.std.specs.Prelude.{Some, None}
 use Rattle.hub.specs.declared.Hub.{Hub}
+use Rattle.hub.specs.declared.Refusal.{Refusal}
+use Rattle.hub.specs.declared.Refusal.TheVariants.{NotInThisState}
 use Rattle.hub.specs.Call.{Call, Outcome, plain}
-use Rattle.hub.specs.Checks.{within, has_space, not_silent, fitting, first_refusal}
+use Rattle.hub.specs.Checks.{within, has_space, not_silent, fitting, refusal_number, first_refusal}
 use Rattle.hub.specs.Step.{served, step}
 use Rattle.hub.specs.Valid.{ValidHub}
-use Rattle.hub.proofs.Order.{refused_by, served_by_lem}
+use Rattle.hub.proofs.Order.{never_0, refused_by, served_by_lem}
 use Rattle.area.specs.Written.{written}
-use Rattle.area_check.specs.Read.{accepts}
-use Rattle.area.specs.Read.{refusal, read_of}
+use Rattle.area_check.specs.Read.{decoded, accepts}
+use Rattle.area.specs.Read.{read_of}
 use Rattle.area_parts.specs.declared.Head.{Head}
 use Rattle.area_parts.specs.Parts.{head_at, buffer_at, slots_at}
 use Rattle.area_parts.proofs.Exact.{parts_exact_lem}
@@ -34,12 +37,12 @@ pub none_written : (r : List ℕ) → payload.written [] r ≡ r
 unfolding payload.written
 none_written r = let l : length {A = ℕ} [] ≤ length r = omega arith in rw (take_all (length r) [] l)
 
-read_taken : (a : List ℕ) → accepts a ≡ true → (read_of a).ok ≡ true
+read_taken : (a : List ℕ) → accepts a ≡ true → Some (decoded a) ≡ read_of a
 unfolding read_of
 read_taken a e = rw e
 
-read-refused : (a : List ℕ) → accepts a ≡ false → (read_of a).ok ≡ false
-unfolding read_of refusal
+read-refused : (a : List ℕ) → accepts a ≡ false → None ≡ read_of a
+unfolding read_of
 read-refused a e = rw e
 
 -- the answer, the area and the reply space are those of the entry
@@ -54,7 +57,7 @@ abbrev pub Unchanged : List ℕ → Call → List ℕ → Answer → Type 0
 Unchanged a c r x = Gives a c r x a r
 
 pub not_taken : (a : List ℕ) → accepts a ≡ false → (c : Call) (r : List ℕ) (x : Answer) → x ≡ plain_struct 6 → Unchanged a c r x
-not_taken a e c r x p = refuses_reply a (read_of a) refl (read-refused a e) c r x p
+not_taken a e c r x p = refuses_reply a (read-refused a e) c r x p
 
 -- no check refuses: the first of them held
 pub all_held : (w r s : Bool) → 0 ≡ first_refusal w r s true → w ≡ true
@@ -62,17 +65,17 @@ all_held true r s p = refl
 all_held false r s p = let x : ⊥ = omega (arith, p) in absurd x
 
 pub turned_away : (a : List ℕ) → accepts a ≡ false → (c : Call) (x : Answer) → x ≡ plain_struct 6 → Leaves a c x a
-turned_away a e c x p = refuses a (read_of a) refl (read-refused a e) c [] x p
+turned_away a e c x p = refuses a (read-refused a e) c [] x p
 
 module _ (a : List ℕ) (ok : accepts a ≡ true) where
   abbrev pub hub_in : Hub
-  hub_in = (read_of a).hub
+  hub_in = decoded a
 
   pub valid : ValidHub hub_in
-  valid = (taken_hub a (read_of a) refl (read_taken a ok)).0
+  valid = (taken_hub a (decoded a) (read_taken a ok)).0
 
   pub form : a ≡ written hub_in
-  form = (taken_hub a (read_of a) refl (read_taken a ok)).1
+  form = (taken_hub a (decoded a) (read_taken a ok)).1
 
   -- ---- its parts
 
@@ -92,19 +95,19 @@ module _ (a : List ℕ) (ok : accepts a ≡ true) where
 
   -- ---- the order of checks
 
-  module _ (c : Call) {n : ℕ} {w r s : Bool} (g : n ≡ first_refusal w r s true) (ew : w ≡ within hub_in c) (er : r ≡ has_space c) (es : s ≡ not_silent hub_in c) where
-    pub early : ¬ (n ≡ 0) → step hub_in c ≡ plain hub_in n
-    early z = sym (refused_by hub_in c refl (any w r s (fitting hub_in c) g) ew er es refl z)
+  module _ (c : Call) {w r s : Bool} (ew : w ≡ within hub_in c) (er : r ≡ has_space c) (es : s ≡ not_silent hub_in c) where
+    pub early : (x : Refusal) → refusal_number x ≡ first_refusal w r s true → step hub_in c ≡ plain hub_in (refusal_number x)
+    early x g = sym (refused_by hub_in c x refl (any w r s (fitting hub_in c) g) ew er es refl)
       where
-        any : (w r s f : Bool) → n ≡ first_refusal w r s true → n ≡ first_refusal w r s f
-        any true true true f p = absurd (z p)
+        any : (w r s f : Bool) → refusal_number x ≡ first_refusal w r s true → refusal_number x ≡ first_refusal w r s f
+        any true true true f p = absurd (never_0 x p)
         any true true false f p = p
         any true false s f p = p
         any false r s f p = p
 
     -- 8 is what the call's rule says itself
-    pub ruled : n ≡ 0 → (fitting hub_in c ≡ false → served hub_in c ≡ plain hub_in 8) → step hub_in c ≡ served hub_in c
-    ruled z unfit = go (fitting hub_in c) refl
+    pub ruled : 0 ≡ first_refusal w r s true → (fitting hub_in c ≡ false → served hub_in c ≡ plain hub_in 8) → step hub_in c ≡ served hub_in c
+    ruled g unfit = go (fitting hub_in c) refl
       where
         last : (w r s : Bool) → 0 ≡ first_refusal w r s true → 8 ≡ first_refusal w r s false
         last true true true p = refl
@@ -112,12 +115,9 @@ module _ (a : List ℕ) (ok : accepts a ≡ true) where
         last true false s p = let x : ⊥ = omega (arith, p) in absurd x
         last false r s p = let x : ⊥ = omega (arith, p) in absurd x
 
-        eight : ¬ (◌≡◌ {A = ℕ} 8 0)
-        eight p = omega (arith, p)
-
         go : (f : Bool) → f ≡ fitting hub_in c → step hub_in c ≡ served hub_in c
-        go true p = sym (served_by_lem hub_in c g ew er es p z refl)
-        go false p = sym (refused_by hub_in c refl (last w r s (sym z ∙ g)) ew er es p eight) ∙ sym (unfit (sym p))
+        go true p = sym (served_by_lem hub_in c g ew er es p refl)
+        go false p = sym (refused_by hub_in c NotInThisState refl (last w r s g) ew er es p) ∙ sym (unfit (sym p))
 
   -- ---- what it gives and leaves
 
@@ -125,7 +125,7 @@ module _ (a : List ℕ) (ok : accepts a ≡ true) where
     pub moves : (o : Outcome) → step hub_in c ≡ o → (x : Answer) (u v : List ℕ) → x ≡ struct_of o.answer → u ≡ written o.next
         → v ≡ payload.written o.answer.bytes r → Gives a c r x u v
     moves o e x u v ex eu ev =
-        let q = entry_taken a (read_of a) refl (read_taken a ok) c r in (
+        let q = entry_taken a (decoded a) (read_taken a ok) c r in (
           ex ∙ ap (λ (y : Outcome). struct_of y.answer) (sym e) ∙ ap (λ (g : EntryOutcome). g.answer) (sym q),
           (
             eu ∙ ap (λ (y : Outcome). written y.next) (sym e) ∙ ap (λ (g : EntryOutcome). g.area) (sym q),

@@ -6,7 +6,7 @@ use Rattle.runs.specs.ErrorReports.{ErrorReports}
 use Rattle.runs.specs.Tally.{active_buffers, TallyHolds}
 use Rattle.runs.specs.Share.{LaneShare}
 use Rattle.area.specs.Written.{area_length}
-use Rattle.area.specs.Read.{read_of}
+use Rattle.area.specs.Read.{hub_read}
 use Rattle.grimholdi.specs.Entry.{new_entry}
 use Rattle.grimholdi.specs.Asked.{gives}
 use Rattle.grimholdi.specs.Runs.{entries, AreaFollows}
@@ -25,5 +25,5 @@ pub record EntryClaims : Type 0 where
   pub error_reports : ErrorReports entries
   pub lane_share : LaneShare entries
   -- pending or ready now: of the hub that is read from the area
-  pub tally_holds : TallyHolds entries (λ a. active_buffers (read_of a).hub)
+  pub tally_holds : TallyHolds entries (λ a. active_buffers (hub_read a))
   pub isolation : EntryIsolation

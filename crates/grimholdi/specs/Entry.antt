@@ -1,7 +1,7 @@
 -- Internal, pinned by `EntryClaims` (Claims.antt): what each C entry answers, and what it leaves in the area and in the reply space, for any bytes
 -- and any numbers. An area that isn't taken answers 6 and nothing changes; else the hub's rule decides, the area is the written form of the
 -- next hub, and the n bytes of the answer stand at the start of the reply space.
-use Rattle.std.specs.Prelude.{ℕ, cond, ◌&&◌, List, [], eqb, length}
+use Rattle.std.specs.Prelude.{ℕ, cond, ◌&&◌, List, [], eqb, length, is_some}
 use Rattle.payload.specs.Payload as payload
 use Rattle.buffer.specs.declared.DeviceResult.{DeviceResult}
 use Rattle.translator.specs.Answers.{result_number, result_pid}
@@ -10,7 +10,7 @@ use Rattle.hub.specs.Call as hub
 use Rattle.hub.specs.Call.{Call, Outcome, pid_answer}
 use Rattle.hub.specs.Step.{step}
 use Rattle.area.specs.Written.{written, area_length}
-use Rattle.area.specs.Read.{read_of}
+use Rattle.area.specs.Read.{read_of, hub_read}
 use Rattle.grimholdi.specs.declared.Answer.{Answer}
 use Rattle.grimholdi.specs.Outcome.{plain_struct, EntryOutcome, refused}
 
@@ -39,7 +39,7 @@ carried_out o r = record { answer = struct_of o.answer; area = written o.next; r
 
 -- the entry of the call c, on the area a with the reply space r
 unfoldable pub entry : List ℕ → Call → List ℕ → EntryOutcome
-entry a c r = cond (read_of a).ok (carried_out (step (read_of a).hub c) r) (refused a r)
+entry a c r = cond (is_some (read_of a)) (carried_out (step (hub_read a) c) r) (refused a r)
 
 -- A new hub is made from N, B, power-good time, hub current and a removable byte; answer 0. Bad numbers or an area of the wrong length
 -- give no hub and answer 6.

@@ -2,7 +2,7 @@
 use Rattle.std.specs.Prelude.{ℕ, ◌+◌, ◌*◌, ◌-◌, ◌≡◌, List, length, take, drop}
 use Rattle.port.specs.declared.PortNumber.{PortNumber}
 use Rattle.isolation.specs.Isolation.{AtMatchingPoints, PortIsolation}
-use Rattle.area.specs.Read.{read_of}
+use Rattle.area.specs.Read.{hub_read}
 use Rattle.grimholdi.specs.Runs.{entries}
 
 -- where port p's four bytes begin: behind the head's eight and those of the ports before it
@@ -17,5 +17,5 @@ pub record SameAreaBut (p : PortNumber) (a b : List ℕ) : Type 0 where
 
 -- C-21: one port cannot disturb another
 pub record EntryIsolation : Type 0 where
-  pub ports : PortIsolation entries (λ a. (read_of a).hub)
+  pub ports : PortIsolation entries hub_read
   pub areas : AtMatchingPoints entries SameAreaBut

@@ -1,6 +1,6 @@
 -- Entries with one mistake each, and that the claims on entries shut each out. A reader must believe: each differs from the entries where its
 -- comment says, and nowhere else.
-use Rattle.std.specs.Prelude.{ℕ, ◌+◌, ◌*◌, ◌-◌, cond, List, [], ◌++◌, eqb, length, get_or, take, set, replicate}
+use Rattle.std.specs.Prelude.{ℕ, ◌+◌, ◌*◌, ◌-◌, cond, List, [], ◌++◌, eqb, length, get_or, take, set, replicate, is_some}
 use Rattle.area.specs.Read.{read_of}
 use Rattle.grimholdi.specs.Outcome.{plain_struct, EntryOutcome}
 use Rattle.grimholdi.specs.Entry.{new_entry}
@@ -62,7 +62,7 @@ keeps_area a x = record { answer = (gives a x).answer; area = a; reply = (gives 
 abbrev pub takes_longer : List ℕ → Asked → EntryOutcome
 takes_longer a x =
     let b = take (length a - 1) a in
-    cond (read_of b).ok (gives b x) (gives a x)
+    cond (is_some (read_of b)) (gives b x) (gives a x)
 
 -- the memory counts as one byte shorter than it is, so that a new hub is made where it is a byte too long
 abbrev pub makes_longer : List ℕ → ℕ → ℕ → ℕ → ℕ → ℕ → EntryOutcome

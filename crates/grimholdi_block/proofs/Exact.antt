@@ -3,24 +3,24 @@ use Prim.Native.Nat.{ℕ, ◌+◌, ◌-◌, ◌%◌, ◌<◌, ◌≤◌}
 use native.Mathlib.Omega.{arith}
 use mathlib.Core.Path.{◌≡◌, refl, sym, ◌∙◌, ap, ap₂, subst}
 use mathlib.Core.List.{List, [], ◌∷◌, ◌++◌, append_assoc, append-nil}
-use mathlib.Core.Bool.{Bool, true, false, cond, not, ◌&&◌, and-eq-true_iff, and-false}
+use mathlib.Core.Bool.{Bool, true, false, cond, not, ◌&&◌, and-eq-true_iff, and-false, false≢true}
 use borrow.Author.Tests.{eq-eqb, ne_eqb, eqb-true, le-leb, lt-leb, leb-true}
 use lib.Dec.{eqb, leb}
+use Rattle.std.proofs.Common.{Option, Some, None}
 use lib.ListN.{length, take, drop, replicate, length-append, length-replicate, replicate-append-replicate, take-append-drop, length-drop}
 use lib.Seq.{take_at, drop_at, take-length, drop-append-add, length-take-le}
 use Rattle.hub.specs.Call.{Call}
 use Rattle.area_check.specs.Rows.{blank}
 use Rattle.call_bytes.specs.Words.{half, half_at}
-use Rattle.call_bytes.specs.Table.{is_known}
+use Rattle.call_bytes.specs.declared.Recorded.{Recorded}
 use Rattle.call_bytes.specs.Written.{written, Bytes}
 use Rattle.call_bytes.specs.Claims.{Takes}
 use Rattle.call_bytes.specs.Read.{read_of, call_in}
 use Rattle.call_bytes.proofs.Exact.{record_exact_lem, half_lt}
 use Rattle.recording.specs.Written.{written_all, AllFit, count_of, padded, unchecked, check_of, block_of, Writable}
-use Rattle.recording.specs.declared.Verdict.TheVariants.{Good}
-use Rattle.recording.specs.Block.{length_fits, count_fits, records_fit, is_filled, calls_at, verdict_of, is_good}
+use Rattle.recording.specs.Block.{Good, length_fits, count_fits, records_fit, is_filled, calls_at, verdict_of, is_good}
 use Rattle.recording.proofs.Blocks.{not_zero, passed, made, front_length, made_length, made_count, made_zeros, made_last, made_sum, made_calls, Filled, filled}
-use Rattle.grimholdi_block.specs.Writing.{Wrote, wrote, placed, begun, start_entry, is_waiting, is_under_way, is_whole, longer, add_entry, numbered, sealed, finish_entry}
+use Rattle.grimholdi_block.specs.Writing.{Wrote, wrote, placed, begun, start_entry, is_waiting, is_under_way, takes_up, is_whole, longer, add_entry, numbered, sealed, finish_entry}
 use Rattle.grimholdi_block.specs.Writer.{under_way, add_all, IsRecord, UnderWay, Keeps, WriterExact}
 
 -- ---- bytes put between others
@@ -69,14 +69,18 @@ whole_record c r i =
     let t : Takes (written c) c (length (written c)) =
     subst (λ (x : List ℕ). Takes x c (length (written c))) (append-nil (written c)) (record_exact_lem.again c [] i.fits) in
     let k : Takes r c (length r) = subst (λ (x : List ℕ). Takes x c (length x)) (sym i.form) t in
-    rw (k.known, eq-eqb (read_of r).length (length r) k.size)
+    rw (k.known, eq-eqb k.record_read.length (length r) k.size)
 
-record_of : (r : List ℕ) → Bytes r → is_whole r ≡ true → IsRecord (call_in (read_of r) r) r
-record_of r b e =
-    let k = (and-eq-true_iff (is_known (read_of r).kind) (eqb (read_of r).length (length r))).0 e in
-    let n : (read_of r).length ≡ length r = eqb-true (read_of r).length (length r) k.1 in
-    let s = (record_exact_lem.exact r (call_in (read_of r) r) (read_of r).length b).0 (record { known = k.0; call = refl; size = refl }) in
-    record { fits = s.fits; form = sym (take-length r) ∙ ap (λ (m : ℕ). take m r) (sym n) ∙ s.form }
+-- some call has bytes that are one record
+record_of : (r : List ℕ) → Bytes r → is_whole r ≡ true → (c : Call) × IsRecord c r
+record_of r b e = go (read_of r) refl e
+  where
+    go : (o : Option Recorded) → read_of r ≡ o → takes_up (length r) o ≡ true → (c : Call) × IsRecord c r
+    go None k f = absurd (false≢true f)
+    go (Some x) k f =
+        let n : x.length ≡ length r = eqb-true x.length (length r) f in
+        let s = (record_exact_lem.exact r (call_in x r) x.length b).0 (record { record_read = x; known = k; call = refl; size = refl }) in
+        (call_in x r, record { fits = s.fits; form = sym (take-length r) ∙ ap (λ (m : ℕ). take m r) (sym n) ∙ s.form })
 
 no_record : (l r : List ℕ) → Bytes r → ((c : Call) → ¬ (IsRecord c r)) → add_entry l r ≡ wrote 6 l
 unfolding add_entry
@@ -84,7 +88,7 @@ no_record l r b none = go (is_whole r) refl
   where
     go : (w : Bool) → is_whole r ≡ w
         → cond (is_under_way l && is_whole r) (cond (leb (count_of l + length r) 506) (wrote 0 (longer l r)) (wrote 3 l)) (wrote 6 l) ≡ wrote 6 l
-    go true e = absurd (none (call_in (read_of r) r) (record_of r b e))
+    go true e = let i = record_of r b e in absurd (none i.0 i.1)
     go false e = rw (e, and-false (is_under_way l))
 
 -- ---- under way

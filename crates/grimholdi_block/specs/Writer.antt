@@ -5,8 +5,7 @@ use Rattle.hub.specs.Call.{Call}
 use Rattle.call_bytes.specs.Words.{half, half_at}
 use Rattle.call_bytes.specs.Written.{written, Bytes, Fits}
 use Rattle.recording.specs.Written.{written_all, count_of, unchecked, block_of, Writable}
-use Rattle.recording.specs.declared.Verdict.TheVariants.{Good}
-use Rattle.recording.specs.Block.{verdict_of}
+use Rattle.recording.specs.Block.{Good, verdict_of}
 use Rattle.grimholdi_block.specs.Writing.{Wrote, wrote, start_entry, add_entry, finish_entry}
 
 -- the calls cs in a block under way, which will be the block at the place p

@@ -1,7 +1,7 @@
 -- Internal, pinned by `WriterExact` (Writer.antt), which says what they come to: what each writing entry answers and leaves, for any memory.
-use Rattle.std.specs.Prelude.{ℕ, ◌+◌, Bool, cond, not, ◌&&◌, List, ◌++◌, eqb, leb, length, take, drop, replicate}
+use Rattle.std.specs.Prelude.{ℕ, ◌+◌, Bool, false, cond, not, ◌&&◌, List, ◌++◌, eqb, leb, length, take, drop, replicate, Option, Some, None}
 use Rattle.call_bytes.specs.Words.{half, half_at}
-use Rattle.call_bytes.specs.Table.{is_known}
+use Rattle.call_bytes.specs.declared.Recorded.{Recorded}
 use Rattle.call_bytes.specs.Read.{read_of}
 use Rattle.recording.specs.Written.{count_of, check_of}
 use Rattle.recording.specs.Block.{length_fits, is_filled}
@@ -33,9 +33,14 @@ is_waiting l = eqb (half_at l 0) 0 && not (eqb (half_at l 510) 0)
 abbrev pub is_under_way : List ℕ → Bool
 is_under_way l = length_fits l && (is_waiting l && leb (count_of l) 506)
 
+-- a record of n bytes
+abbrev pub takes_up : ℕ → Option Recorded → Bool
+takes_up n None = false
+takes_up n (Some x) = eqb x.length n
+
 -- one record, and nothing behind it
 abbrev pub is_whole : List ℕ → Bool
-is_whole r = is_known (read_of r).kind && eqb (read_of r).length (length r)
+is_whole r = takes_up (length r) (read_of r)
 
 -- the record behind the bytes used, and the count
 abbrev pub longer : List ℕ → List ℕ → List ℕ

@@ -17,38 +17,26 @@ fn put(block: &mut [u8], at: usize, part: &[u8])
     block[at..end].copy_from_slice(part);
 }
 
-fn half_bytes(n: u32) -> [u8; 2]
-    ensures { result ≡ half n }
-{
-    [(n % 256) as u8, (n / 256 % 256) as u8]
-}
-
-fn put_half(block: &mut [u8], at: usize, n: u32)
+fn put_half(block: &mut [u8], at: usize, n: u16)
     requires { at + 2 ≤ length block.old }
     ensures { block.new ≡ placed at (half n) block.old }
 {
-    let form = half_bytes(n);
-    put(block, at, &form);
+    put(block, at, &n.to_le_bytes());
 }
 
 // ---- a block under way
 
 #[unsafe(no_mangle)]
+#[tactic(auto, unfolding(crate::specs::Writing::start_entry))]
 pub extern "C" fn grimholdi_block_start(block: &mut [u8], number: u32) -> u8
     ensures value { result ≡ (start_entry block.old number).answer }
     ensures block_after { block.new ≡ (start_entry block.old number).block }
 {
-    if block.len() != 512 {
+    if block.len() != 512 || number == 0 || 65535 < number {
         return 6;
     }
-    if number == 0 {
-        return 6;
-    }
-    if 65535 < number {
-        return 6;
-    }
-    put(block, 0, &[0u8; 510]);
-    put_half(block, 510, number);
+    put(block, 0, &[0; 510]);
+    put_half(block, 510, number as u16);
     0
 }
 
@@ -56,31 +44,20 @@ pub extern "C" fn grimholdi_block_start(block: &mut [u8], number: u32) -> u8
 fn is_waiting(block: &[u8]) -> bool
     ensures { result ≡ is_waiting block.now }
 {
-    bools::both(
-        call_bytes::half_at(block, 0) == 0,
-        call_bytes::half_at(block, 510) != 0,
-    )
+    call_bytes::half_at(block, 0) == 0 && call_bytes::half_at(block, 510) != 0
 }
 
 fn is_under_way(block: &[u8]) -> bool
     ensures { result ≡ is_under_way block.now }
 {
-    if block.len() != 512 {
-        return false;
-    }
-    if !is_waiting(block) {
-        return false;
-    }
-    recording::count(block) <= 506
+    block.len() == 512 && is_waiting(block) && recording::count(block) <= 506
 }
 
 // One record, and nothing behind it.
 fn is_whole(form: &[u8]) -> bool
     ensures { result ≡ is_whole form.now }
 {
-    let read = call_bytes::read_record(form);
-    let kind = read.kind;
-    bools::both(call_bytes::is_known(kind), read.length == form.len())
+    call_bytes::read_record(form).is_some_and(|record| record.length == form.len())
 }
 
 // The record behind those that there are.
@@ -90,19 +67,17 @@ fn lengthen(block: &mut [u8], form: &[u8])
 {
     let used = recording::count(block);
     let end = used + form.len();
-    put_half(block, 2, end as u32);
+    put_half(block, 2, end as u16);
     put(block, 4 + used, form);
 }
 
 #[unsafe(no_mangle)]
+#[tactic(auto, unfolding(crate::specs::Writing::add_entry))]
 pub extern "C" fn grimholdi_block_add(block: &mut [u8], form: &[u8]) -> u8
     ensures value { result ≡ (add_entry block.old form.now).answer }
     ensures block_after { block.new ≡ (add_entry block.old form.now).block }
 {
-    if !is_under_way(block) {
-        return 6;
-    }
-    if !is_whole(form) {
+    if !is_under_way(block) || !is_whole(form) {
         return 6;
     }
     if 506 - recording::count(block) < form.len() {
@@ -120,18 +95,16 @@ fn seal(block: &mut [u8])
     let number = call_bytes::half_at(block, 510);
     put_half(block, 0, number);
     let sum = recording::word_sum(block, 255) % 65536;
-    put_half(block, 510, (65536 - sum) % 65536);
+    put_half(block, 510, ((65536 - sum) % 65536) as u16);
 }
 
 #[unsafe(no_mangle)]
+#[tactic(auto, unfolding(crate::specs::Writing::finish_entry))]
 pub extern "C" fn grimholdi_block_finish(block: &mut [u8]) -> u8
     ensures value { result ≡ (finish_entry block.old).answer }
     ensures block_after { block.new ≡ (finish_entry block.old).block }
 {
-    if !is_waiting(block) {
-        return 6;
-    }
-    if !recording::is_filled(block) {
+    if !is_waiting(block) || !recording::is_filled(block) {
         return 6;
     }
     seal(block);

@@ -2,9 +2,9 @@
 use Prim.Native.Nat.{ℕ, zero, suc, ◌*◌, ◌≤◌}
 use native.Mathlib.Omega.{arith}
 use mathlib.Core.Path.{◌≡◌, refl, sym, ◌∙◌, ap, ap₂}
-use mathlib.Core.Option.{Option, none, some}
+use Rattle.std.proofs.Common.{Option, Some, None, option_and_then}
 use mathlib.Core.List.{List, [], ◌∷◌}
-use mathlib.Core.Bool.{Bool, true, false, cond}
+use mathlib.Core.Bool.{Bool, true, false}
 use lib.ListN.{length, drop, length-append, length-drop}
 use lib.Seq.{length-take-le}
 use Rattle.hub.specs.declared.Hub.{Hub}
@@ -16,7 +16,7 @@ use Rattle.hub.proofs.Claimed.{hub_claims_lem}
 use Rattle.runs.specs.Machine.{rules, run_from, after_from}
 use Rattle.area.specs.Written.{written, area_length, written_over}
 use Rattle.area.proofs.Exact.{area_exact_lem}
-use Rattle.call_bytes.specs.Table.{is_known}
+use Rattle.call_bytes.specs.declared.Recorded.{Recorded}
 use Rattle.call_bytes.specs.Read.{read_of, call_in}
 use Rattle.recording.specs.Calls.{cons_to, calls_in, listed}
 use Rattle.recording.specs.Written.{count_of, used_of}
@@ -80,14 +80,16 @@ unfolding calls_in
 calls_few zero [] = omega arith
 calls_few zero (x ∷ l) = omega arith
 calls_few (suc n) [] = omega arith
-calls_few (suc n) (x ∷ l) =
-    go (is_known (read_of (x ∷ l)).kind) (calls_in n (drop (read_of (x ∷ l)).length (x ∷ l))) (calls_few n (drop (read_of (x ∷ l)).length (x ∷ l)))
+calls_few (suc n) (x ∷ l) = go (read_of (x ∷ l)) (calls_few n)
   where
-    go : (k : Bool) (o : Option (List Call)) → length (listed o) ≤ n
-        → length (listed (cond k (cons_to (call_in (read_of (x ∷ l)) (x ∷ l)) o) none)) ≤ suc n
-    go false o h = omega arith
-    go true none h = omega arith
-    go true (some cs) h = omega (arith, h)
+    more : (r : Recorded) (o : Option (List Call)) → length (listed o) ≤ n → length (listed (cons_to (call_in r (x ∷ l)) o)) ≤ suc n
+    more r None h = omega arith
+    more r (Some cs) h = omega (arith, h)
+
+    go : (o : Option Recorded) → ((k : List ℕ) → length (listed (calls_in n k)) ≤ n)
+        → length (listed (option_and_then (λ r. cons_to (call_in r (x ∷ l)) (calls_in n (drop r.length (x ∷ l)))) o)) ≤ suc n
+    go None h = omega arith
+    go (Some r) h = more r (calls_in n (drop r.length (x ∷ l))) (h (drop r.length (x ∷ l)))
 
 pub played_short : (h : Hub) (p : ℕ) (b : List ℕ) → ValidHub h → length (block_played h p b).output ≤ 37444
 unfolding block_played

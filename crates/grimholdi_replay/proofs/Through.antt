@@ -7,18 +7,20 @@ use borrow.Author.Tests.{le-leb, lt-leb}
 use lib.ListN.{length, take, drop}
 use lib.Seq.{take-append_seam, drop-append_seam}
 use Rattle.hub.specs.declared.Hub.{Hub}
+use Rattle.hub.specs.Hub.{hub_of}
 use Rattle.hub.specs.Call.{Call}
 use Rattle.hub.specs.Valid.{ValidHub}
 use Rattle.runs.specs.Machine.{new_hub_of, rules, run, after_from}
 use Rattle.runs.specs.Tally.{active_buffers}
 use Rattle.area.specs.Written.{written}
-use Rattle.area.specs.declared.Read.{Read}
-use Rattle.area.specs.Read.{read_of}
+use Rattle.std.specs.Prelude.{Option, None, unwrap_or, is_some}
+use Rattle.area.specs.Read.{read_of, hub_read}
 use Rattle.area.proofs.Exact.{area_exact_lem}
-use Rattle.recording.specs.declared.Verdict.{Verdict}
-use Rattle.recording.specs.declared.Verdict.TheVariants.{Good, BadLength, BadCheck, BadNumber, BadCount, BadRecord}
+use Rattle.recording.specs.declared.BlockFault.{BlockFault}
+use Rattle.recording.specs.declared.BlockFault.TheVariants.{BadLength, BadCheck, BadNumber, BadCount, BadRecord}
+use Rattle.std.proofs.Common.{Ok, Err}
 use Rattle.call_bytes.specs.Written.{Bytes}
-use Rattle.recording.specs.Block.{verdict_of, is_good, calls_at}
+use Rattle.recording.specs.Block.{Verdict, Good, verdict_of, is_good, calls_at}
 use Rattle.recording.specs.Written.{IsBlock}
 use Rattle.recording.specs.Refusals.{Told}
 use Rattle.recording.proofs.Blocks.{block_exact_lem}
@@ -36,7 +38,7 @@ use Rattle.grimholdi_replay.proofs.Kept.{played_kept}
 
 -- ---- one block
 
-bad_area : (a : List ℕ) (p : ℕ) (b o : List ℕ) → (read_of a).ok ≡ false → block_entry a p b o ≡ refused 6 a o
+bad_area : (a : List ℕ) (p : ℕ) (b o : List ℕ) → read_of a ≡ None → block_entry a p b o ≡ refused 6 a o
 unfolding block_entry
 bad_area a p b o e = rw e
 
@@ -44,41 +46,33 @@ bad_area a p b o e = rw e
 behind : (a : List ℕ) (p : ℕ) (b o : List ℕ)
     → drop (block_entry a p b o).answer.length (block_entry a p b o).answers ≡ drop (block_entry a p b o).answer.length o
 unfolding block_entry
-behind a p b o = go (read_of a).ok refl (is_enough (length o)) refl
+behind a p b o = go (is_some (read_of a)) refl (is_enough (length o)) refl
   where
     l : List ℕ
-    l = (block_played (read_of a).hub p b).output
+    l = (block_played (hub_read a) p b).output
 
-    go : (x : Bool) → (read_of a).ok ≡ x → (y : Bool) → is_enough (length o) ≡ y
+    go : (x : Bool) → is_some (read_of a) ≡ x → (y : Bool) → is_enough (length o) ≡ y
         → drop (block_entry a p b o).answer.length (block_entry a p b o).answers ≡ drop (block_entry a p b o).answer.length o
     go false e y f = rw e
     go true e false f = rw (e, f)
     go true e true f = rw (e, f) (drop-append_seam l (drop (length l) o))
 
 number_back : (v : Verdict) → verdict_numbered (refusal_number v) ≡ v
-number_back Good = refl
-number_back BadLength = refl
-number_back BadCheck = refl
-number_back BadNumber = refl
-number_back BadCount = refl
-number_back BadRecord = refl
+number_back (Ok u) = refl
+number_back (Err BadLength) = refl
+number_back (Err BadCheck) = refl
+number_back (Err BadNumber) = refl
+number_back (Err BadCount) = refl
+number_back (Err BadRecord) = refl
 
 played_good : (h : Hub) (p : ℕ) (b : List ℕ) → verdict_of p b ≡ Good → block_played h p b ≡ played_calls h (calls_at b)
 unfolding block_played
 played_good h p b e = rw e
 
 -- a block that isn't good leaves all as it was
-played_none_lem : (h : Hub) (p : ℕ) (b : List ℕ) → ¬ (verdict_of p b ≡ Good) → block_played h p b ≡ played_none h (verdict_of p b)
+played_none_lem : (h : Hub) (p : ℕ) (b : List ℕ) (f : BlockFault) → verdict_of p b ≡ Err f → block_played h p b ≡ played_none h (Err f)
 unfolding block_played
-played_none_lem h p b n = go (verdict_of p b) refl
-  where
-    go : (v : Verdict) → verdict_of p b ≡ v → block_played h p b ≡ played_none h (verdict_of p b)
-    go Good e = absurd (n e)
-    go BadLength e = rw e
-    go BadCheck e = rw e
-    go BadNumber e = rw e
-    go BadCount e = rw e
-    go BadRecord e = rw e
+played_none_lem h p b f e = rw e
 
 module _ (h : Hub) (v : ValidHub h) (p : ℕ) (b o : List ℕ) where
   replayed : answers_length ≤ length o → block_entry (written h) p b o ≡ carried_out (block_played h p b) o
@@ -94,16 +88,16 @@ module _ (h : Hub) (v : ValidHub h) (p : ℕ) (b o : List ℕ) where
       let g = (block_exact_lem.exact p b cs y).1 i in
       replayed room ∙ ap (λ (x : Played Hub). carried_out x o) (played_good h p b g.0 ∙ ap (played_calls h) g.1)
 
-  bad_block : (w : Verdict) → answers_length ≤ length o → Bytes b → ¬ (w ≡ Good) → Told w p b → block_entry (written h) p b o ≡ carried_out (played_none h w) o
-  bad_block w room y n t =
-      let e : verdict_of p b ≡ w = (block_refusals_lem w p b y).1 t in
-      replayed room ∙ ap (λ (x : Played Hub). carried_out x o) (played_none_lem h p b (λ g. n (sym e ∙ g)) ∙ ap (played_none h) e)
+  bad_block : (f : BlockFault) → answers_length ≤ length o → Bytes b → Told (Err f) p b
+      → block_entry (written h) p b o ≡ carried_out (played_none h (Err f)) o
+  bad_block f room y t =
+      replayed room ∙ ap (λ (x : Played Hub). carried_out x o) (played_none_lem h p b f ((block_refusals_lem (Err f) p b y).1 t))
 
-  active : answers_length ≤ length o → (block_entry (written h) p b o).answer.active ≡ active_buffers (read_of (block_entry (written h) p b o).area).hub
+  active : answers_length ≤ length o → (block_entry (written h) p b o).answer.active ≡ active_buffers (hub_read (block_entry (written h) p b o).area)
   active room =
       ap (λ (g : ReplayOutcome). g.answer.active) (replayed room)
-      ∙ ap (λ (r : Read). active_buffers r.hub) (sym (area_exact_lem.again (block_played h p b).state (played_kept h p b v).valid))
-      ∙ ap (λ (g : ReplayOutcome). active_buffers (read_of g.area).hub) (sym (replayed room))
+      ∙ ap (λ (r : Option Hub). active_buffers (unwrap_or r (hub_of 0 0 0 0 0))) (sym (area_exact_lem.again (block_played h p b).state (played_kept h p b v).valid))
+      ∙ ap (λ (g : ReplayOutcome). active_buffers (hub_read g.area)) (sym (replayed room))
 
 -- ---- block after block
 
@@ -132,8 +126,8 @@ module _ (memory : ℕ → List ℕ) (large : Large memory) where
   abbrev entry : List ℕ → ℕ → Recording → Replayed (List ℕ)
   entry a p bs = replay_from (through_entry memory) a p bs
 
-  read_back : (h : Hub) → ValidHub h → (read_of (written h)).hub ≡ h
-  read_back h v = ap (λ (r : Read). r.hub) (area_exact_lem.again h v)
+  read_back : (h : Hub) → ValidHub h → hub_read (written h) ≡ h
+  read_back h v = ap (λ (r : Option Hub). unwrap_or r (hub_of 0 0 0 0 0)) (area_exact_lem.again h v)
 
   -- a block, then what is behind it
   then_seen : (p : ℕ) (x : Played Hub) → ValidHub x.state → (r : Replayed (List ℕ)) (s : Replayed Hub) → seen_as (through_entry memory) r ≡ s
@@ -206,7 +200,7 @@ entry_replays_lem =
       bad_area = λ a p b o n. bad_area a p b o ((area_exact_lem.refused a).1 n);
       no_space = λ h p b o v. no_space h v p b o;
       good_block = λ h p b o cs v. good_block h v p b o cs;
-      bad_block = λ h p b o w v. bad_block h v p b o w;
+      bad_block = λ h p b o f v. bad_block h v p b o f;
       behind = behind;
       active = λ h p b o v. active h v p b o;
       exact = exact;

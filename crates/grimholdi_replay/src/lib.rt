@@ -5,11 +5,11 @@ ghost use Rattle.std.specs.Prelude.{◌≡◌};
 ghost use Rattle.grimholdi_replay.specs.Entry.{refusal_number, plain_replayed, block_entry};
 ghost use Rattle.grimholdi_replay.specs.Replays.{EntryReplays};
 
-use recording::Verdict;
+use recording::BlockFault;
 
 // What became of a block. The header's grimholdi_replayed.
 #[repr(C)]
-#[derive(Clone, Copy)]
+#[derive(Clone, Copy, Default)]
 pub struct Replayed {
     pub number: u8,
     pub refusal: u8,
@@ -20,16 +20,16 @@ pub struct Replayed {
     pub length: u32,
 }
 
-fn refusal_number(verdict: Verdict) -> u8
+fn refusal_number(verdict: Result<(), BlockFault>) -> u8
     ensures { result ≡ refusal_number verdict }
 {
     match verdict {
-        Verdict::Good => 0,
-        Verdict::BadLength => 1,
-        Verdict::BadCheck => 2,
-        Verdict::BadNumber => 3,
-        Verdict::BadCount => 4,
-        Verdict::BadRecord => 5,
+        Ok(()) => 0,
+        Err(BlockFault::BadLength) => 1,
+        Err(BlockFault::BadCheck) => 2,
+        Err(BlockFault::BadNumber) => 3,
+        Err(BlockFault::BadCount) => 4,
+        Err(BlockFault::BadRecord) => 5,
     }
 }
 
@@ -39,12 +39,7 @@ fn plain_replayed(number: u8) -> Replayed
 {
     Replayed {
         number,
-        refusal: 0,
-        active: 0,
-        stored: 0,
-        answered: 0,
-        emptied: 0,
-        length: 0,
+        ..Replayed::default()
     }
 }
 
@@ -59,26 +54,20 @@ pub extern "C" fn grimholdi_replay_block(
     ensures area { area.new ≡ (block_entry area.old place block.now answers.old).area }
     ensures answers { answers.new ≡ (block_entry area.old place block.now answers.old).answers }
 {
-    let read = area::read_area(area);
-    if !read.ok {
+    let Some(hub) = area::read_area(area) else {
         return plain_replayed(6);
-    }
-    let hub = read.hub;
-    let done = replay::replay_block(hub, place, block, answers);
-    if !done.enough {
+    };
+    let Some(done) = replay::replay_block(hub, place, block, answers) else {
         return plain_replayed(7);
-    }
-    let next = done.hub;
-    let verdict = done.verdict;
-    let counts = done.counts;
-    area::write_area(next, area);
+    };
+    area::write_area(done.hub, area);
     Replayed {
         number: 0,
-        refusal: refusal_number(verdict),
-        active: replay::active(next),
-        stored: counts.stored,
-        answered: counts.answered,
-        emptied: counts.emptied,
+        refusal: refusal_number(done.verdict),
+        active: replay::active(done.hub),
+        stored: done.counts.stored,
+        answered: done.counts.answered,
+        emptied: done.counts.emptied,
         length: done.written as u32,
     }
 }

@@ -3,10 +3,11 @@ use Prim.Native.Nat.{ℕ}
 use native.Mathlib.Omega.{arith}
 use mathlib.Core.Path.{◌≡◌, refl, sym, ◌∙◌, ap, ap₂, subst}
 use mathlib.Core.Logic.{◌↔◌}
-use mathlib.Core.Bool.{true, false}
-use mathlib.Core.Option.{some}
+use mathlib.Core.Bool.{false}
+use Rattle.std.specs.Prelude.{Option, Some, None, unwrap_or}
 use mathlib.Core.List.{List, [], ◌∷◌}
 use Rattle.hub.specs.declared.Hub.{Hub}
+use Rattle.hub.specs.Hub.{hub_of}
 use Rattle.hub.specs.Call.{Call, Answer}
 use Rattle.hub.specs.Step.{step}
 use Rattle.hub.specs.Valid.{ValidHub}
@@ -16,17 +17,14 @@ use Rattle.runs.specs.Machine.{new_hub_of}
 use Rattle.numbers.specs.Split.{split_from}
 use Rattle.why.specs.declared.Reason.{Reason}
 use Rattle.why.specs.declared.Reason.TheVariants.{Nothing, Number}
-use Rattle.why.specs.declared.ReasonBytes.{ReasonBytes}
 use Rattle.why.specs.Said.{TrueOf, number, says, gets_reason, enough_for}
 use Rattle.why.specs.Why.{why_of}
 use Rattle.why.specs.Claims.{Leaves}
-use Rattle.why.specs.Bytes.{bytes_of}
 use Rattle.why.specs.ExplainedRuns.{Item, make, explain, Seen, made, explained, seen_from, explaining, items_of, Demand2WithReasons}
 use Rattle.why.proofs.Claimed.{why_claims_lem}
 use Rattle.why.proofs.ExplainedRuns as runs
 use Rattle.area.specs.Written.{written}
-use Rattle.area.specs.declared.Read.{Read}
-use Rattle.area.specs.Read.{read_of}
+use Rattle.area.specs.Read.{read_of, hub_read}
 use Rattle.area.proofs.Exact.{area_exact_lem}
 use Rattle.grimholdi.specs.Outcome.{EntryOutcome}
 use Rattle.grimholdi.specs.Asked.{Asked, start_split, call_of, gives}
@@ -35,18 +33,7 @@ use Rattle.grimholdi_why.specs.Explained.{entry_reason, explains, explained_entr
 use Rattle.grimholdi.proofs.Carried.{gives_taken, answer_same, next_same, new_hub_lem, filled_is}
 use Rattle.grimholdi.proofs.Claimed.{entry_claims_lem}
 
--- ---- one explaining entry
-
-module _ (a : List ℕ) (q : Read) (e : q ≡ read_of a) (c : Call) {b : ReasonBytes} where
-  pub tells : q.ok ≡ true → {r : Reason} → r ≡ why_of q.hub c → b ≡ bytes_of r → b ≡ bytes_of (entry_reason a c)
-  unfolding entry_reason
-  tells ok p w = w ∙ ap bytes_of p ∙ rw (← e, ok)
-
-  pub tells_refused : q.ok ≡ false → b ≡ bytes_of (Number 6) → b ≡ bytes_of (entry_reason a c)
-  unfolding entry_reason
-  tells_refused ok w = w ∙ rw (← e, ok)
-
-reason_refused : (a : List ℕ) (c : Call) → (read_of a).ok ≡ false → entry_reason a c ≡ Number 6
+reason_refused : (a : List ℕ) (c : Call) → read_of a ≡ None → entry_reason a c ≡ Number 6
 unfolding entry_reason
 reason_refused a c e = rw e
 
@@ -61,10 +48,10 @@ module _ (h : Hub) (v : ValidHub h) where
   true_of c = subst (λ (r : Reason). TrueOf r h c) (sym (reason_same c)) (why_claims_lem.true_of h c v)
 
   -- a number is enough for nothing
-  no_number : {r : Reason} {n : ℕ} {a : Answer} → r ≡ Number n → enough_for r ≡ some a → ⊥
-  no_number {n = n} {a = a} p e = let w : enough_for (Number n) ≡ some a = ap enough_for (sym p) ∙ e in let z : ◌≡◌ {A = ℕ} 0 1 = cc in omega arith
+  no_number : {r : Reason} {n : ℕ} {a : Answer} → r ≡ Number n → enough_for r ≡ Some a → ⊥
+  no_number {n = n} {a = a} p e = let w : enough_for (Number n) ≡ Some a = ap enough_for (sym p) ∙ e in let z : ◌≡◌ {A = ℕ} 0 1 = cc in omega arith
 
-  answered : (x : Asked) (a : Answer) → enough_for (explains (written h) x) ≡ some a → seen (gives (written h) x) ≡ a
+  answered : (x : Asked) (a : Answer) → enough_for (explains (written h) x) ≡ Some a → seen (gives (written h) x) ≡ a
   answered x a e = answer_same h v x ∙ go (true_of (call_of x))
     where
       go : TrueOf (explains (written h) x) h (call_of x) → (step h (call_of x)).answer ≡ a
@@ -79,17 +66,17 @@ module _ (h : Hub) (v : ValidHub h) where
       (λ e. n ∙ w.0 (sym r ∙ e), λ e. r ∙ w.1 (sym n ∙ e))
 
   -- the hub that is read from the area that an entry leaves
-  next_read : (x : Asked) → (read_of (gives (written h) x).area).hub ≡ (step h (call_of x)).next
+  next_read : (x : Asked) → hub_read (gives (written h) x).area ≡ (step h (call_of x)).next
   next_read x =
-      ap (λ (a : List ℕ). (read_of a).hub) (next_same h v x)
-      ∙ ap (λ (r : Read). r.hub) (area_exact_lem.again (step h (call_of x)).next (hub_claims_lem.step_valid h v (call_of x)))
+      ap hub_read (next_same h v x)
+      ∙ ap (λ (r : Option Hub). unwrap_or r (hub_of 0 0 0 0 0)) (area_exact_lem.again (step h (call_of x)).next (hub_claims_lem.step_valid h v (call_of x)))
 
   stored : (z p t f g a e : ℕ) (l : List ℕ)
-      → Leaves (explains (written h) (start_split z p t f g a e l)) (split_from z p t f g a e) l h (read_of (gives (written h) (start_split z p t f g a e l)).area).hub
+      → Leaves (explains (written h) (start_split z p t f g a e l)) (split_from z p t f g a e) l h (hub_read (gives (written h) (start_split z p t f g a e l)).area)
   stored z p t f g a e l =
       let x : Asked = start_split z p t f g a e l in
       let s = split_from z p t f g a e in
-      subst (λ (r : Reason). Leaves r s l h (read_of (gives (written h) x).area).hub) (sym (reason_same (call_of x)))
+      subst (λ (r : Reason). Leaves r s l h (hub_read (gives (written h) x).area)) (sym (reason_same (call_of x)))
       (subst (λ (k : Hub). Leaves (why_of h (call_of x)) s l h k) (sym (next_read x)) (why_claims_lem.stored h z p t f g a e l v))
 
 -- ---- runs

@@ -8,6 +8,10 @@ ghost use Rattle.grimholdi_why.specs.Explained.{entry_reason, EntryReasons};
 
 use why::{Reason, ReasonBytes};
 
+// Of an area that isn't the written form of a valid hub.
+const REFUSED: Reason = Reason::Number(6);
+
+#[tactic(auto, unfolding(crate::specs::Explained::entry_reason))]
 #[unsafe(no_mangle)]
 pub extern "C" fn grimholdi_why_control(
     area: &[u8],
@@ -17,26 +21,21 @@ pub extern "C" fn grimholdi_why_control(
 ) -> ReasonBytes
     ensures { result ≡ bytes_of (entry_reason area.now (Control lane setup.now room)) }
 {
-    let read = area::read_area(area);
-    if read.ok {
-        let hub = read.hub;
-        return why::bytes_of(why::explain_control(hub, lane, setup, room));
-    }
-    why::bytes_of(Reason::Number(6))
+    why::bytes_of(area::read_area(area).map_or(
+        REFUSED,
+        |hub| why::explain_control(hub, lane, setup, room),
+    ))
 }
 
+#[tactic(auto, unfolding(crate::specs::Explained::entry_reason))]
 #[unsafe(no_mangle)]
 pub extern "C" fn grimholdi_why_poll(area: &[u8], lane: u32, room: usize) -> ReasonBytes
     ensures { result ≡ bytes_of (entry_reason area.now (Poll lane room)) }
 {
-    let read = area::read_area(area);
-    if read.ok {
-        let hub = read.hub;
-        return why::bytes_of(why::explain_poll(hub, lane, room));
-    }
-    why::bytes_of(Reason::Number(6))
+    why::bytes_of(area::read_area(area).map_or(REFUSED, |hub| why::explain_poll(hub, lane, room)))
 }
 
+#[tactic(auto, unfolding(crate::specs::Explained::entry_reason))]
 #[unsafe(no_mangle)]
 pub extern "C" fn grimholdi_why_start_split(
     area: &[u8],
@@ -51,16 +50,15 @@ pub extern "C" fn grimholdi_why_start_split(
 ) -> ReasonBytes
     ensures { result ≡ bytes_of (entry_reason area.now (Start lane pid transfer lowspeed toggle address endpoint payload.now)) }
 {
-    let read = area::read_area(area);
-    if read.ok {
-        let hub = read.hub;
-        return why::bytes_of(why::explain_start_split(
+    why::bytes_of(area::read_area(area).map_or(
+        REFUSED,
+        |hub| why::explain_start_split(
             hub, lane, pid, transfer, lowspeed, toggle, address, endpoint, payload,
-        ));
-    }
-    why::bytes_of(Reason::Number(6))
+        ),
+    ))
 }
 
+#[tactic(auto, unfolding(crate::specs::Explained::entry_reason))]
 #[unsafe(no_mangle)]
 pub extern "C" fn grimholdi_why_complete_split(
     area: &[u8],
@@ -72,74 +70,56 @@ pub extern "C" fn grimholdi_why_complete_split(
 ) -> ReasonBytes
     ensures { result ≡ bytes_of (entry_reason area.now (Complete lane address endpoint direction room)) }
 {
-    let read = area::read_area(area);
-    if read.ok {
-        let hub = read.hub;
-        return why::bytes_of(why::explain_complete_split(
-            hub, lane, address, endpoint, direction, room,
-        ));
-    }
-    why::bytes_of(Reason::Number(6))
+    why::bytes_of(area::read_area(area).map_or(
+        REFUSED,
+        |hub| why::explain_complete_split(hub, lane, address, endpoint, direction, room),
+    ))
 }
 
+#[tactic(auto, unfolding(crate::specs::Explained::entry_reason))]
 #[unsafe(no_mangle)]
 pub extern "C" fn grimholdi_why_launch(area: &[u8], room: usize) -> ReasonBytes
     ensures { result ≡ bytes_of (entry_reason area.now (Launch room)) }
 {
-    let read = area::read_area(area);
-    if read.ok {
-        let hub = read.hub;
-        return why::bytes_of(why::explain_launch(hub, room));
-    }
-    why::bytes_of(Reason::Number(6))
+    why::bytes_of(area::read_area(area).map_or(REFUSED, |hub| why::explain_launch(hub, room)))
 }
 
+#[tactic(auto, unfolding(crate::specs::Explained::entry_reason))]
 #[unsafe(no_mangle)]
 pub extern "C" fn grimholdi_why_deliver(area: &[u8], res: u32, payload: &[u8]) -> ReasonBytes
     ensures { result ≡ bytes_of (entry_reason area.now (Deliver res payload.now)) }
 {
-    let read = area::read_area(area);
-    if read.ok {
-        let hub = read.hub;
-        return why::bytes_of(why::explain_deliver(hub, res, payload));
-    }
-    why::bytes_of(Reason::Number(6))
+    why::bytes_of(area::read_area(area).map_or(
+        REFUSED,
+        |hub| why::explain_deliver(hub, res, payload),
+    ))
 }
 
+#[tactic(auto, unfolding(crate::specs::Explained::entry_reason))]
 #[unsafe(no_mangle)]
 pub extern "C" fn grimholdi_why_line_event(area: &[u8], event: u32, port: u32) -> ReasonBytes
     ensures { result ≡ bytes_of (entry_reason area.now (Event event port)) }
 {
-    let read = area::read_area(area);
-    if read.ok {
-        let hub = read.hub;
-        return why::bytes_of(why::explain_line_event(hub, event, port));
-    }
-    why::bytes_of(Reason::Number(6))
+    why::bytes_of(area::read_area(area).map_or(
+        REFUSED,
+        |hub| why::explain_line_event(hub, event, port),
+    ))
 }
 
+#[tactic(auto, unfolding(crate::specs::Explained::entry_reason))]
 #[unsafe(no_mangle)]
 pub extern "C" fn grimholdi_why_tick(area: &[u8]) -> ReasonBytes
     ensures { result ≡ bytes_of (entry_reason area.now Tick) }
 {
-    let read = area::read_area(area);
-    if read.ok {
-        let hub = read.hub;
-        return why::bytes_of(why::explain_tick(hub));
-    }
-    why::bytes_of(Reason::Number(6))
+    why::bytes_of(area::read_area(area).map_or(REFUSED, |hub| why::explain_tick(hub)))
 }
 
+#[tactic(auto, unfolding(crate::specs::Explained::entry_reason))]
 #[unsafe(no_mangle)]
 pub extern "C" fn grimholdi_why_bus_reset(area: &[u8]) -> ReasonBytes
     ensures { result ≡ bytes_of (entry_reason area.now BusReset) }
 {
-    let read = area::read_area(area);
-    if read.ok {
-        let hub = read.hub;
-        return why::bytes_of(why::explain_bus_reset(hub));
-    }
-    why::bytes_of(Reason::Number(6))
+    why::bytes_of(area::read_area(area).map_or(REFUSED, |hub| why::explain_bus_reset(hub)))
 }
 
 // What holds of every explaining entry, and of every run of entries in which some calls are explained.

@@ -1,4 +1,5 @@
 -- Only data has bytes, at most 64 of them. Assumes nothing.
+use Prim.Native.Nat.{ℕ}
 use Prim.Native.Nat.{◌≤◌}
 use mathlib.Core.Path.{◌≡◌, refl}
 use mathlib.Core.Bool.{Bool, true, false, cond, ◌||◌, true≢false}
@@ -18,16 +19,13 @@ use Rattle.buffer.specs.declared.BufferNumber.{BufferNumber}
 use Rattle.buffer.specs.Buffer.{holds}
 use Rattle.buffer.specs.Lengths.{is_data}
 use Rattle.buffer.specs.Valid.{Whole}
+use Rattle.buffer.specs.declared.StartSplit.{StartSplit}
+use Rattle.translator.specs.declared.NotLaunched.{NotLaunched}
 use Rattle.translator.specs.declared.LowSide.{LowSide}
 use Rattle.translator.specs.declared.LowSide.TheVariants.{Idle, Running, Abandoned}
 use Rattle.buffer.specs.declared.Lane.{Lane}
 use Rattle.translator.specs.declared.Translator.{Translator}
-use Rattle.translator.specs.declared.Found.{Found}
-use Rattle.translator.specs.declared.Found.TheVariants.{Nowhere, At}
-use Rattle.translator.specs.declared.Earliest.{Earliest}
-use Rattle.translator.specs.declared.Earliest.TheVariants.{NonePending, Stored}
-use Rattle.translator.specs.declared.LaunchAnswer.{LaunchAnswer}
-use Rattle.translator.specs.declared.LaunchAnswer.TheVariants.{NothingPending, Occupied, Launches}
+use Rattle.translator.specs.declared.NotLaunched.TheVariants.{NothingPending, Occupied}
 use Rattle.translator.specs.Translator.{at}
 use Rattle.translator.specs.Search.{find}
 use Rattle.translator.specs.Order.{earliest}
@@ -35,8 +33,10 @@ use Rattle.translator.specs.CompleteSplit.{completed, complete_at, complete_spli
 use Rattle.translator.specs.Launch.{launched, launch_at, launch_by, launch}
 use Rattle.translator.specs.Valid.{ValidTranslator}
 use Rattle.translator.proofs.Kept.{slot_le}
+use Rattle.std.specs.Prelude.{Result, Ok, Err, None, Option, Some}
+use Rattle.request.specs.declared.Fault.{Fault}
 use Rattle.request.specs.declared.Request.{Request}
-use Rattle.request.specs.declared.Request.TheVariants.{Wrong, SetConfiguration, GetConfiguration, GetHubDescriptor, GetHubStatus, GetPortStatus, ClearHubFeature, ClearPortFeature, SetPortFeature, ClearTTBuffer, ResetTT}
+use Rattle.request.specs.declared.Request.TheVariants.{SetConfiguration, GetConfiguration, GetHubDescriptor, GetHubStatus, GetPortStatus, ClearHubFeature, ClearPortFeature, SetPortFeature, ClearTTBuffer, ResetTT}
 use Rattle.request.specs.Request.{request_of}
 use Rattle.numbers.specs.Named.{lane_from}
 use Rattle.numbers.specs.Split.{key_from}
@@ -55,20 +55,20 @@ abbrev OnlyData : Outcome → Type 0
 OnlyData o = eqb o.answer.number 1 ≡ false → o.answer.bytes ≡ []
 
 module _ (h : Hub) where
-  request_only : (y : Lane) (r : Request) → OnlyData (by_request h y r)
-  request_only y (Wrong f) e = refl
-  request_only y (SetConfiguration on) e = refl
-  request_only y GetConfiguration e = absurd (true≢false e)
-  request_only y (GetHubDescriptor n) e = absurd (true≢false e)
-  request_only y GetHubStatus e = absurd (true≢false e)
-  request_only y (GetPortStatus n) e = absurd (true≢false e)
-  request_only y ClearHubFeature e = refl
-  request_only y (ClearPortFeature n f) e = refl
-  request_only y (SetPortFeature n f) e = refl
-  request_only y (ClearTTBuffer k) e = refl
-  request_only y ResetTT e = refl
+  request_only : (y : Lane) (r : Result Request Fault) → OnlyData (by_request h y r)
+  request_only y (Err f) e = refl
+  request_only y (Ok (SetConfiguration on)) e = refl
+  request_only y (Ok GetConfiguration) e = absurd (true≢false e)
+  request_only y (Ok (GetHubDescriptor n)) e = absurd (true≢false e)
+  request_only y (Ok GetHubStatus) e = absurd (true≢false e)
+  request_only y (Ok (GetPortStatus n)) e = absurd (true≢false e)
+  request_only y (Ok ClearHubFeature) e = refl
+  request_only y (Ok (ClearPortFeature n f)) e = refl
+  request_only y (Ok (SetPortFeature n f)) e = refl
+  request_only y (Ok (ClearTTBuffer k)) e = refl
+  request_only y (Ok ResetTT) e = refl
 
-  requested_only : (y : Lane) (r : Request) → OnlyData (requested h y r)
+  requested_only : (y : Lane) (r : Result Request Fault) → OnlyData (requested h y r)
   unfolding requested
   requested_only y r =
       elim (h.configured || served_always r) as (λ b. OnlyData (cond b (by_request h y r) (refuse 2 h))) [
@@ -100,14 +100,14 @@ module _ (h : Hub) where
       slot n p (Ready s r) e = handshake p (is_data r) e
       slot n p (Old s r) e = handshake p (is_data r) e
 
-      go : (f : Found) → OnlyData (completed_as h (complete_at t f))
-      go Nowhere = λ e. refl
-      go (At n) = slot n (at t.buffers n.0).payload (at t.buffers n.0).slot
+      go : (f : Option BufferNumber) → OnlyData (completed_as h (complete_at t f))
+      go None = λ e. refl
+      go (Some n) = slot n (at t.buffers n.0).payload (at t.buffers n.0).slot
 
-  launched_only : (g : Hub) (a : LaunchAnswer) (p : Payload) → OnlyData (launched_by g a p)
-  launched_only g NothingPending p e = refl
-  launched_only g Occupied p e = refl
-  launched_only g (Launches s) p e = absurd (true≢false e)
+  launched_only : (g : Hub) (a : Result StartSplit NotLaunched) (p : Payload) → OnlyData (launched_by g a p)
+  launched_only g (Err NothingPending) p e = refl
+  launched_only g (Err Occupied) p e = refl
+  launched_only g (Ok s) p e = absurd (true≢false e)
 
   served_only : (c : Call) → OnlyData (served h c)
   unfolding served
@@ -133,20 +133,20 @@ buffer_fits_lem : (b : Buffer) → Whole b → length (content b.payload) ≤ 64
 buffer_fits_lem b w = let l : b.payload.len ≤ 64 = slot_le b.slot b.payload.len w.fits in simp length-take (omega arith)
 
 module _ (h : Hub) (v : ValidHub h) where
-  request_fits : (y : Lane) (r : Request) → Fit (by_request h y r)
-  request_fits y (Wrong f) = omega arith
-  request_fits y (SetConfiguration on) = omega arith
-  request_fits y GetConfiguration = omega arith
-  request_fits y (GetHubDescriptor n) = let d = descriptor h.identity in simp length-take (omega arith)
-  request_fits y GetHubStatus = omega arith
-  request_fits y (GetPortStatus n) = omega arith
-  request_fits y ClearHubFeature = omega arith
-  request_fits y (ClearPortFeature n f) = omega arith
-  request_fits y (SetPortFeature n f) = omega arith
-  request_fits y (ClearTTBuffer k) = omega arith
-  request_fits y ResetTT = omega arith
+  request_fits : (y : Lane) (r : Result Request Fault) → Fit (by_request h y r)
+  request_fits y (Err f) = omega arith
+  request_fits y (Ok (SetConfiguration on)) = omega arith
+  request_fits y (Ok GetConfiguration) = omega arith
+  request_fits y (Ok (GetHubDescriptor n)) = let d = descriptor h.identity in simp length-take (omega arith)
+  request_fits y (Ok GetHubStatus) = omega arith
+  request_fits y (Ok (GetPortStatus n)) = omega arith
+  request_fits y (Ok ClearHubFeature) = omega arith
+  request_fits y (Ok (ClearPortFeature n f)) = omega arith
+  request_fits y (Ok (SetPortFeature n f)) = omega arith
+  request_fits y (Ok (ClearTTBuffer k)) = omega arith
+  request_fits y (Ok ResetTT) = omega arith
 
-  requested_fits : (y : Lane) (r : Request) → Fit (requested h y r)
+  requested_fits : (y : Lane) (r : Result Request Fault) → Fit (requested h y r)
   unfolding requested
   requested_fits y r =
       elim (h.configured || served_always r) as (λ b. Fit (cond b (by_request h y r) (refuse 2 h))) [
@@ -177,9 +177,9 @@ module _ (h : Hub) (v : ValidHub h) where
       slot n p l (Ready s r) = given_fits p l (is_data r)
       slot n p l (Old s r) = given_fits p l (is_data r)
 
-      go : (f : Found) → Fit (completed_as h (complete_at t f))
-      go Nowhere = omega arith
-      go (At n) = slot n (at t.buffers n.0).payload (buffer_fits_lem (at t.buffers n.0) (w.whole n.0)) (at t.buffers n.0).slot
+      go : (f : Option BufferNumber) → Fit (completed_as h (complete_at t f))
+      go None = omega arith
+      go (Some n) = slot n (at t.buffers n.0).payload (buffer_fits_lem (at t.buffers n.0) (w.whole n.0)) (at t.buffers n.0).slot
 
   launched_fits : (t : Translator) → ValidTranslator t → Fit (launched_as h (launch t))
   unfolding launch
@@ -191,9 +191,9 @@ module _ (h : Hub) (v : ValidHub h) where
       slot n p l (Ready s r) = omega arith
       slot n p l (Old s r) = omega arith
 
-      found : (e : Earliest) → Fit (launched_as h (launch_at t e))
-      found NonePending = omega arith
-      found (Stored n q) = slot n (at t.buffers n.0).payload (buffer_fits_lem (at t.buffers n.0) (w.whole n.0)) (at t.buffers n.0).slot
+      found : (e : Option (BufferNumber × ℕ)) → Fit (launched_as h (launch_at t e))
+      found None = omega arith
+      found (Some (n, q)) = slot n (at t.buffers n.0).payload (buffer_fits_lem (at t.buffers n.0) (w.whole n.0)) (at t.buffers n.0).slot
 
       go : (l : LowSide) → Fit (launched_as h (launch_by t l))
       go Idle = found (earliest (take t.count t.buffers))

@@ -2,13 +2,13 @@
 -- Assumes nothing.
 use Prim.Native.Nat.{ℕ, ◌≤◌, min}
 use mathlib.Core.Path.{◌≡◌, refl, sym, ap, ap₂, ◌∙◌}
-use mathlib.Core.Bool.{Bool, true, false, cond, not, ◌&&◌, ◌||◌}
+use mathlib.Core.Bool.{Bool, true, false, cond, not, ◌&&◌}
 use mathlib.Core.List.{List, [], ◌∷◌}
 use mathlib.Core.Logic.{⊎_elim}
 use native.Mathlib.Omega.{arith}
 use borrow.Author.Tests.{ne_eqb}
 use lib.Dec.{eqb}
-use lib.ListN.{get_or, take, length, length-take}
+use lib.ListN.{take, length, length-take}
 use Rattle.payload.specs.declared.Payload.{Payload}
 use Rattle.payload.specs.Payload.{padded, payload_of, content}
 use Rattle.payload.proofs.Laws.{content_of, take_min}
@@ -21,7 +21,6 @@ use Rattle.port.proofs.Claimed.{port_claims_lem}
 use Rattle.ports.specs.Ports.{port_at}
 use Rattle.ports.proofs.Laws.{put_back}
 use Rattle.ports.specs.Bitmap.{bitmap_of}
-use Rattle.buffer.specs.declared.Lane.{Lane}
 use Rattle.buffer.specs.declared.DeviceResult.{DeviceResult}
 use Rattle.translator.specs.declared.Translator.{Translator}
 use Rattle.translator.specs.declared.Launched.{Launched}
@@ -29,17 +28,16 @@ use Rattle.translator.specs.declared.Delivered.{Delivered}
 use Rattle.translator.specs.Launch.{launch}
 use Rattle.translator.specs.Deliver.{deliver}
 use Rattle.translator.specs.Answers.{launch_number, deliver_number}
-use Rattle.request.specs.declared.Request.{Request}
-use Rattle.request.specs.Request.{request_of}
-use Rattle.numbers.specs.Named.{event_from, lane_from}
+use Rattle.numbers.specs.Named.{event_from}
 use Rattle.hub.specs.declared.Hub.{Hub}
+use Rattle.hub.specs.declared.Refusal.{Refusal}
 use Rattle.hub.specs.Hub.{with_ports, with_port_at}
 use Rattle.hub.specs.Call.{Event, Outcome, plain, refuse, gives}
-use Rattle.hub.specs.Requests.{descriptor, by_request, served_always, requested}
+use Rattle.hub.specs.Requests.{descriptor}
 use Rattle.hub.specs.Rules.{polled, stepped_at, event_at}
-use Rattle.hub.specs.Checks.{within, has_space, not_silent, fitting, unless, first_refusal}
+use Rattle.hub.specs.Checks.{within, has_space, not_silent, fitting, refusal_number, unless, first_refusal}
 use Rattle.hub.specs.Step.{served, step}
-use Rattle.hub.proofs.Order.{refused_by}
+use Rattle.hub.proofs.Order.{never_0, refused_by}
 
 -- a poll leaves the hub as it was
 pub polled_stays : (h : Hub) → (polled h).next ≡ h
@@ -60,22 +58,6 @@ module _ (h : Hub) {o : Outcome} where
   unfolding polled payload_of padded
   poll_data {m} e p b z = e ∙ rw (p, ← b, ne_eqb m 0 z)
 
-  -- the bytes are taken one by one: the request is read from them by their places
-  pub control_served : (z : ℕ) (s : List ℕ) {y : Lane} {r : Request} → o ≡ requested h y r → y ≡ lane_from z
-      → r ≡ request_of h.identity.ports (get_or s 0 0 ∷ get_or s 1 0 ∷ get_or s 2 0 ∷ get_or s 3 0 ∷ get_or s 4 0 ∷ get_or s 5 0 ∷ get_or s 6 0 ∷ get_or s 7 0 ∷ [])
-      → o ≡ requested h (lane_from z) (request_of h.identity.ports s)
-  unfolding request_of
-  control_served z s e l q = e ∙ ap₂ (requested h) l q
-
-  -- unconfigured, only some requests are served
-  pub requested_done : (y : Lane) (r : Request) {b s : Bool} → o ≡ by_request h y r → b ≡ (h.configured || s) → s ≡ served_always r → b ≡ true → o ≡ requested h y r
-  unfolding requested
-  requested_done y r e b s t = e ∙ rw (← s, ← b, t)
-
-  pub requested_refused : (y : Lane) (r : Request) {b s : Bool} → o ≡ refuse 2 h → b ≡ (h.configured || s) → s ≡ served_always r → b ≡ false → o ≡ requested h y r
-  unfolding requested
-  requested_refused y r e b s t = e ∙ rw (← s, ← b, t)
-
   -- the descriptor is cut to the length that is asked
   pub descriptor_cut : (n : ℕ) {k : ℕ} {p : Payload} → o ≡ gives h (content p) → p ≡ payload_of (take k (descriptor h.identity)) → k ≡ min n 9
       → o ≡ gives h (take n (descriptor h.identity))
@@ -95,12 +77,12 @@ deliver_fits t r l e f g = rw (e, f, g)
 
 -- ---- a line event: its numbers and the hub's configuration are looked at before the port, and the port's own answer is the last check
 
-refuses_still : (w f x : Bool) → ¬ (first_refusal w true true f ≡ 0) → first_refusal w true true f ≡ first_refusal w true true (f && x)
-refuses_still true true x d = absurd (d refl)
-refuses_still true false x d = refl
-refuses_still false f x d = refl
+refuses_still : (w f x : Bool) (i : Refusal) → refusal_number i ≡ first_refusal w true true f → refusal_number i ≡ first_refusal w true true (f && x)
+refuses_still true true x i e = absurd (never_0 i e)
+refuses_still true false x i e = e
+refuses_still false f x i e = e
 
-port_decides : (w f x : Bool) → first_refusal w true true f ≡ 0 → first_refusal w true true (f && x) ≡ unless x 8 0
+port_decides : (w f x : Bool) → 0 ≡ first_refusal w true true f → first_refusal w true true (f && x) ≡ unless x 8 0
 port_decides true true x e = refl
 port_decides true false x e = absurd (omega (arith, e))
 port_decides false f x e = absurd (omega (arith, e))
@@ -125,17 +107,18 @@ module _ (h : Hub) (e n : ℕ) {o : Outcome} where
       → p ≡ port_at h.ports (record { 0 = n }) → v ≡ event_from e → o ≡ event_at h (event_from e) (record { 0 = n })
   event_at_lem s made port event = s ∙ ap (stepped_at h (record { 0 = n })) (made ∙ ap₂ line_event port event)
 
-  module _ {m : ℕ} {w : Bool} where
-    pub event_refused : o ≡ plain h m → m ≡ first_refusal w true true h.configured → w ≡ within h (Event e n) → ¬ (m ≡ 0) → o ≡ step h (Event e n)
+  module _ {w : Bool} where
+    pub event_refused : (x : Refusal) → o ≡ refuse (refusal_number x) h → refusal_number x ≡ first_refusal w true true h.configured → w ≡ within h (Event e n)
+        → o ≡ step h (Event e n)
     unfolding has_space not_silent fitting
-    event_refused a g i z = refused_by h (Event e n) a (g ∙ refuses_still w h.configured _ (λ y. z (g ∙ y))) i refl refl refl z
+    event_refused x a g i = refused_by h (Event e n) x a (refuses_still w h.configured _ x g) i refl refl refl
 
-    pub event_stepped : m ≡ first_refusal w true true h.configured → w ≡ within h (Event e n) → m ≡ 0 → o ≡ event_at h (event_from e) (record { 0 = n })
+    pub event_stepped : 0 ≡ first_refusal w true true h.configured → w ≡ within h (Event e n) → o ≡ event_at h (event_from e) (record { 0 = n })
         → o ≡ step h (Event e n)
     unfolding step has_space not_silent fitting served
-    event_stepped g i z a =
+    event_stepped g i a =
         a
         ∙ sym
         (ap (λ (k : ℕ). cond {A = Outcome} (eqb k 0) (event_at h (event_from e) (record { 0 = n })) (refuse k h))
-        (port_decides (within h (Event e n)) h.configured _ (ap (λ (b : Bool). first_refusal b true true h.configured) (sym i) ∙ sym g ∙ z))
+        (port_decides (within h (Event e n)) h.configured _ (g ∙ ap (λ (b : Bool). first_refusal b true true h.configured) i))
         ∙ last_check h (event_from e) (record { 0 = n }))

@@ -2,7 +2,7 @@
 use Prim.Native.Nat.{ℕ, ◌≤◌}
 use native.Mathlib.Omega.{arith}
 use mathlib.Core.Path.{◌≡◌}
-use mathlib.Core.Option.{Option, none, some}
+use Rattle.std.specs.Prelude.{Option, None, Some}
 use mathlib.Core.Bool.{false, and-false}
 use borrow.Author.Tests.{ne_eqb}
 use lib.Dec.{eqb}
@@ -15,17 +15,17 @@ use Rattle.hub.specs.Call.{Call, Control, Poll, Start, Complete, Launch, Deliver
 use Rattle.hub.specs.Checks.{within}
 use Rattle.hub.specs.Step.{step}
 
-no_lane : (z y : ℕ) → ◌≡◌ {A = Option ℕ} (some y) (some z) → 2 ≤ z → is_lane y ≡ false
+no_lane : (z y : ℕ) → ◌≡◌ {A = Option ℕ} (Some y) (Some z) → 2 ≤ z → is_lane y ≡ false
 no_lane z y e l = let same : y ≡ z = cc in rw (ne_eqb y 0 (λ q. omega (arith, q, l, same)), ne_eqb y 1 (λ q. omega (arith, q, l, same)))
 
-carries_none : (z : ℕ) → ¬ (◌≡◌ {A = Option ℕ} none (some z))
+carries_none : (z : ℕ) → ¬ (◌≡◌ {A = Option ℕ} None (Some z))
 carries_none z e = let x : ◌≡◌ {A = ℕ} 0 1 = cc in omega (arith, x)
 
 outside : (h : Hub) (c : Call) → within h c ≡ false → step h c ≡ refuse 6 h
 unfolding step
 outside h c e = rw e
 
-pub no_such_lane_lem : (h : Hub) (c : Call) (z : ℕ) → lane_of c ≡ some z → 2 ≤ z → step h c ≡ refuse 6 h
+pub no_such_lane_lem : (h : Hub) (c : Call) (z : ℕ) → lane_of c ≡ Some z → 2 ≤ z → step h c ≡ refuse 6 h
 unfolding within split_named key_named
 no_such_lane_lem h (Control y s room) z q l = outside h (Control y s room) (rw (no_lane z y q l) (and-false (eqb (length s) 8)))
 no_such_lane_lem h (Poll y room) z q l = outside h (Poll y room) (no_lane z y q l)

@@ -22,27 +22,24 @@ use Rattle.translator.specs.declared.LowSide.{LowSide}
 use Rattle.translator.specs.declared.LowSide.TheVariants.{Idle, Running, Abandoned}
 use Rattle.buffer.specs.declared.Lane.{Lane}
 use Rattle.translator.specs.declared.Translator.{Translator}
-use Rattle.translator.specs.declared.Found.{Found}
-use Rattle.translator.specs.declared.Found.TheVariants.{Nowhere, At}
 use Rattle.translator.specs.declared.Choice.{Choice}
 use Rattle.translator.specs.declared.Choice.TheVariants.{NoRoom, LimitReached, Held, Reused, Took}
-use Rattle.translator.specs.declared.Earliest.{Earliest}
-use Rattle.translator.specs.declared.Earliest.TheVariants.{NonePending, Stored}
-use Rattle.translator.specs.declared.StartAnswer.TheVariants as start
-use Rattle.translator.specs.declared.DeliverAnswer.TheVariants as answer
+use Rattle.translator.specs.declared.NotDelivered.TheVariants as answer
 use Rattle.translator.specs.declared.Delivered.{Delivered}
 use Rattle.translator.specs.Translator.{at}
 use Rattle.translator.specs.Search.{find}
 use Rattle.translator.specs.Limit.{permitted}
 use Rattle.translator.specs.ResetLane.{reset_lane}
 use Rattle.translator.specs.Order.{earliest}
-use Rattle.translator.specs.StartSplit.{stored, start_by, start_split}
+use Rattle.translator.specs.StartSplit.{stored, start_by, start_split, outside}
 use Rattle.translator.specs.CompleteSplit.{completed, complete_at, complete_split}
 use Rattle.translator.specs.Launch.{launched, launch_at, launch_by, launch}
 use Rattle.translator.specs.Deliver.{undelivered, delivered, deliver_by, deliver}
 use Rattle.translator.specs.Clear.{clear_at, clear_buffer}
+use Rattle.std.specs.Prelude.{Result, Ok, Err, None, Option, Some}
+use Rattle.request.specs.declared.Fault.{Fault}
 use Rattle.request.specs.declared.Request.{Request}
-use Rattle.request.specs.declared.Request.TheVariants.{Wrong, SetConfiguration, GetConfiguration, GetHubDescriptor, GetHubStatus, GetPortStatus, ClearHubFeature, ClearPortFeature, SetPortFeature, ClearTTBuffer, ResetTT}
+use Rattle.request.specs.declared.Request.TheVariants.{SetConfiguration, GetConfiguration, GetHubDescriptor, GetHubStatus, GetPortStatus, ClearHubFeature, ClearPortFeature, SetPortFeature, ClearTTBuffer, ResetTT}
 use Rattle.request.specs.Request.{request_of}
 use Rattle.numbers.specs.Named.{lane_from, result_from}
 use Rattle.numbers.specs.Split.{split_from, key_from}
@@ -62,7 +59,7 @@ module _ (t : Translator) where
   unfolding start_split stored
   start_count s l = go (start_fits s (length l)) (permitted t.count (key_of s) (take t.count t.buffers))
     where
-      go : (x : Bool) (c : Choice) → (cond x (start_by t s l c) (record { next = t; answer = start.Outside })).next.count ≡ t.count
+      go : (x : Bool) (c : Choice) → (cond x (start_by t s l c) (record { next = t; answer = Err outside })).next.count ≡ t.count
       go true NoRoom = refl
       go true LimitReached = refl
       go true (Held n) = refl
@@ -80,9 +77,9 @@ module _ (t : Translator) where
       slot n p (Ready s r) = refl
       slot n p (Old s r) = refl
 
-      go : (f : Found) → (complete_at t f).next.count ≡ t.count
-      go Nowhere = refl
-      go (At n) = slot n (at t.buffers n.0).payload (at t.buffers n.0).slot
+      go : (f : Option BufferNumber) → (complete_at t f).next.count ≡ t.count
+      go None = refl
+      go (Some n) = slot n (at t.buffers n.0).payload (at t.buffers n.0).slot
 
   launch_count : (launch t).next.count ≡ t.count
   unfolding launch
@@ -94,9 +91,9 @@ module _ (t : Translator) where
       slot n p (Ready s r) = refl
       slot n p (Old s r) = refl
 
-      found : (e : Earliest) → (launch_at t e).next.count ≡ t.count
-      found NonePending = refl
-      found (Stored n q) = slot n (at t.buffers n.0).payload (at t.buffers n.0).slot
+      found : (e : Option (BufferNumber × ℕ)) → (launch_at t e).next.count ≡ t.count
+      found None = refl
+      found (Some (n, q)) = slot n (at t.buffers n.0).payload (at t.buffers n.0).slot
 
       go : (l : LowSide) → (launch_by t l).next.count ≡ t.count
       go Idle = found (earliest (take t.count t.buffers))
@@ -127,9 +124,9 @@ module _ (t : Translator) where
   unfolding clear_buffer
   clear_count k = go (find (holds k) (take t.count t.buffers))
     where
-      go : (f : Found) → (clear_at t f).count ≡ t.count
-      go Nowhere = refl
-      go (At n) = refl
+      go : (f : Option BufferNumber) → (clear_at t f).count ≡ t.count
+      go None = refl
+      go (Some n) = refl
 
   reset_count : (z : Lane) → (reset_lane t z).count ≡ t.count
   unfolding reset_lane
@@ -149,21 +146,21 @@ module _ (h : Hub) where
   translator_numbers : (t : Translator) → t.count ≡ h.translator.count → SameNumbers h (with_translator h t)
   translator_numbers t e = record { identity = refl; buffers = e }
 
-  request_numbers : (y : Lane) (r : Request) → SameNumbers h (by_request h y r).next
+  request_numbers : (y : Lane) (r : Result Request Fault) → SameNumbers h (by_request h y r).next
   unfolding configured_as
-  request_numbers y (Wrong f) = nothing
-  request_numbers y (SetConfiguration on) = record { identity = refl; buffers = refl }
-  request_numbers y GetConfiguration = nothing
-  request_numbers y (GetHubDescriptor n) = nothing
-  request_numbers y GetHubStatus = nothing
-  request_numbers y (GetPortStatus n) = nothing
-  request_numbers y ClearHubFeature = nothing
-  request_numbers y (ClearPortFeature n f) = record { identity = refl; buffers = refl }
-  request_numbers y (SetPortFeature n f) = record { identity = refl; buffers = refl }
-  request_numbers y (ClearTTBuffer k) = translator_numbers _ (clear_count h.translator (keyed y k))
-  request_numbers y ResetTT = translator_numbers _ (reset_count h.translator y)
+  request_numbers y (Err f) = nothing
+  request_numbers y (Ok (SetConfiguration on)) = record { identity = refl; buffers = refl }
+  request_numbers y (Ok GetConfiguration) = nothing
+  request_numbers y (Ok (GetHubDescriptor n)) = nothing
+  request_numbers y (Ok GetHubStatus) = nothing
+  request_numbers y (Ok (GetPortStatus n)) = nothing
+  request_numbers y (Ok ClearHubFeature) = nothing
+  request_numbers y (Ok (ClearPortFeature n f)) = record { identity = refl; buffers = refl }
+  request_numbers y (Ok (SetPortFeature n f)) = record { identity = refl; buffers = refl }
+  request_numbers y (Ok (ClearTTBuffer k)) = translator_numbers _ (clear_count h.translator (keyed y k))
+  request_numbers y (Ok ResetTT) = translator_numbers _ (reset_count h.translator y)
 
-  requested_numbers : (y : Lane) (r : Request) → SameNumbers h (requested h y r).next
+  requested_numbers : (y : Lane) (r : Result Request Fault) → SameNumbers h (requested h y r).next
   unfolding requested
   requested_numbers y r =
       elim (h.configured || served_always r) as (λ b. SameNumbers h (cond b (by_request h y r) (refuse 2 h)).next) [

@@ -6,6 +6,7 @@ use native.Mathlib.Nat.{pow-le-pow_right}
 use native.Mathlib.Omega.{arith}
 use lib.Dec.{eqb, leb, ltb}
 use borrow.Author.Tests.{leb-true, le-leb, ltb-true}
+use Rattle.std.specs.Prelude.{Ok}
 use Rattle.hub.specs.declared.Hub.{Hub}
 use Rattle.hub.specs.Hub.{new_fits, hub_of, new_hub}
 
@@ -81,7 +82,7 @@ module _ (n b g c r : ℕ) where
 
   -- numbers that fit are bytes
   pub new_made : {h : Hub} {t : Bool} → h ≡ hub_of (n % 256) (b % 256) (g % 256) (c % 256) (r % 256) → t ≡ new_fits n b g c r → t ≡ true
-      → record { number = 0; hub = h } ≡ new_hub n b g c r
+      → Ok h ≡ new_hub n b g c r
   unfolding new_hub
   new_made e f z =
       let t = sym f ∙ z in

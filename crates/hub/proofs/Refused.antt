@@ -13,19 +13,23 @@ use Rattle.ports.specs.Bitmap.{bitmap_of}
 use Rattle.buffer.specs.declared.Key.{Key}
 use Rattle.buffer.specs.Lengths.{is_data}
 use Rattle.buffer.specs.declared.Lane.{Lane}
+use Rattle.buffer.specs.declared.DeviceResult.{DeviceResult}
+use Rattle.buffer.specs.declared.StartSplit.{StartSplit}
+use Rattle.translator.specs.declared.NotLaunched.{NotLaunched}
+use Rattle.translator.specs.declared.NoResult.{NoResult}
 use Rattle.translator.specs.declared.Translator.{Translator}
-use Rattle.translator.specs.declared.CompleteAnswer.{CompleteAnswer}
-use Rattle.translator.specs.declared.CompleteAnswer.TheVariants.{NoMatch, NotYet, Gives}
-use Rattle.translator.specs.declared.LaunchAnswer.{LaunchAnswer}
-use Rattle.translator.specs.declared.LaunchAnswer.TheVariants.{NothingPending, Occupied, Launches}
+use Rattle.translator.specs.declared.NoResult.TheVariants.{NoMatch, NotYet}
+use Rattle.translator.specs.declared.NotLaunched.TheVariants.{NothingPending, Occupied}
 use Rattle.translator.specs.Answers.{is_refusal, complete_number, launch_number}
 use Rattle.translator.specs.StartSplit.{start_split}
 use Rattle.translator.specs.CompleteSplit.{complete_split}
 use Rattle.translator.specs.Launch.{launch}
 use Rattle.translator.specs.Deliver.{deliver}
 use Rattle.translator.proofs.Calls as calls
+use Rattle.std.specs.Prelude.{Result, Ok, Err}
+use Rattle.request.specs.declared.Fault.{Fault}
 use Rattle.request.specs.declared.Request.{Request}
-use Rattle.request.specs.declared.Request.TheVariants.{Wrong, SetConfiguration, GetConfiguration, GetHubDescriptor, GetHubStatus, GetPortStatus, ClearHubFeature, ClearPortFeature, SetPortFeature, ClearTTBuffer, ResetTT}
+use Rattle.request.specs.declared.Request.TheVariants.{SetConfiguration, GetConfiguration, GetHubDescriptor, GetHubStatus, GetPortStatus, ClearHubFeature, ClearPortFeature, SetPortFeature, ClearTTBuffer, ResetTT}
 use Rattle.request.specs.Request.{request_of}
 use Rattle.numbers.specs.Named.{lane_from, event_from, result_from}
 use Rattle.numbers.specs.Split.{split_from, key_from}
@@ -44,20 +48,20 @@ abbrev Same : Hub → Outcome → Type 0
 Same h o = is_refusal o.answer.number ≡ true → o ≡ refuse o.answer.number h
 
 module _ (h : Hub) where
-  request_same : (y : Lane) (r : Request) → Same h (by_request h y r)
-  request_same y (Wrong f) e = refl
-  request_same y (SetConfiguration on) e = absurd (false≢true e)
-  request_same y GetConfiguration e = absurd (false≢true e)
-  request_same y (GetHubDescriptor n) e = absurd (false≢true e)
-  request_same y GetHubStatus e = absurd (false≢true e)
-  request_same y (GetPortStatus n) e = absurd (false≢true e)
-  request_same y ClearHubFeature e = absurd (false≢true e)
-  request_same y (ClearPortFeature n f) e = absurd (false≢true e)
-  request_same y (SetPortFeature n f) e = absurd (false≢true e)
-  request_same y (ClearTTBuffer k) e = absurd (false≢true e)
-  request_same y ResetTT e = absurd (false≢true e)
+  request_same : (y : Lane) (r : Result Request Fault) → Same h (by_request h y r)
+  request_same y (Err f) e = refl
+  request_same y (Ok (SetConfiguration on)) e = absurd (false≢true e)
+  request_same y (Ok GetConfiguration) e = absurd (false≢true e)
+  request_same y (Ok (GetHubDescriptor n)) e = absurd (false≢true e)
+  request_same y (Ok GetHubStatus) e = absurd (false≢true e)
+  request_same y (Ok (GetPortStatus n)) e = absurd (false≢true e)
+  request_same y (Ok ClearHubFeature) e = absurd (false≢true e)
+  request_same y (Ok (ClearPortFeature n f)) e = absurd (false≢true e)
+  request_same y (Ok (SetPortFeature n f)) e = absurd (false≢true e)
+  request_same y (Ok (ClearTTBuffer k)) e = absurd (false≢true e)
+  request_same y (Ok ResetTT) e = absurd (false≢true e)
 
-  requested_same : (y : Lane) (r : Request) → Same h (requested h y r)
+  requested_same : (y : Lane) (r : Result Request Fault) → Same h (requested h y r)
   unfolding requested
   requested_same y r =
       elim (h.configured || served_always r) as (λ b. Same h (cond b (by_request h y r) (refuse 2 h))) [
@@ -81,26 +85,26 @@ module _ (h : Hub) where
   completed_same : (k : Key) → Same h (completed_as h (complete_split h.translator k))
   completed_same k = go (complete_split h.translator k).answer refl
     where
-      next : (a : CompleteAnswer) → (complete_split h.translator k).answer ≡ a → is_refusal (complete_number a) ≡ true → (complete_split h.translator k).next ≡ h.translator
-      next a q e = (calls.refused_same).complete h.translator k (ap (λ (x : CompleteAnswer). is_refusal (complete_number x)) q ∙ e)
+      next : (a : Result DeviceResult NoResult) → (complete_split h.translator k).answer ≡ a → is_refusal (complete_number a) ≡ true → (complete_split h.translator k).next ≡ h.translator
+      next a q e = (calls.refused_same).complete h.translator k (ap (λ (x : Result DeviceResult NoResult). is_refusal (complete_number x)) q ∙ e)
 
-      go : (a : CompleteAnswer) → (complete_split h.translator k).answer ≡ a
+      go : (a : Result DeviceResult NoResult) → (complete_split h.translator k).answer ≡ a
           → Same h (completed_by (with_translator h (complete_split h.translator k).next) a (complete_split h.translator k).payload)
-      go NoMatch q e = ap (λ (t : Translator). plain (with_translator h t) 2) (next NoMatch q refl)
-      go NotYet q e = ap (λ (t : Translator). plain (with_translator h t) 4) (next NotYet q refl)
-      go (Gives r) q e = absurd (data_served (is_data r) e)
+      go (Err NoMatch) q e = ap (λ (t : Translator). plain (with_translator h t) 2) (next (Err NoMatch) q refl)
+      go (Err NotYet) q e = ap (λ (t : Translator). plain (with_translator h t) 4) (next (Err NotYet) q refl)
+      go (Ok r) q e = absurd (data_served (is_data r) e)
 
   launched_same : Same h (launched_as h (launch h.translator))
   launched_same = go (launch h.translator).answer refl
     where
-      next : (a : LaunchAnswer) → (launch h.translator).answer ≡ a → is_refusal (launch_number a) ≡ true → (launch h.translator).next ≡ h.translator
-      next a q e = (calls.refused_same).launched h.translator (ap (λ (x : LaunchAnswer). is_refusal (launch_number x)) q ∙ e)
+      next : (a : Result StartSplit NotLaunched) → (launch h.translator).answer ≡ a → is_refusal (launch_number a) ≡ true → (launch h.translator).next ≡ h.translator
+      next a q e = (calls.refused_same).launched h.translator (ap (λ (x : Result StartSplit NotLaunched). is_refusal (launch_number x)) q ∙ e)
 
-      go : (a : LaunchAnswer) → (launch h.translator).answer ≡ a
+      go : (a : Result StartSplit NotLaunched) → (launch h.translator).answer ≡ a
           → Same h (launched_by (with_translator h (launch h.translator).next) a (launch h.translator).payload)
-      go NothingPending q e = ap (λ (t : Translator). plain (with_translator h t) 3) (next NothingPending q refl)
-      go Occupied q e = ap (λ (t : Translator). plain (with_translator h t) 8) (next Occupied q refl)
-      go (Launches s) q e = absurd (false≢true e)
+      go (Err NothingPending) q e = ap (λ (t : Translator). plain (with_translator h t) 3) (next (Err NothingPending) q refl)
+      go (Err Occupied) q e = ap (λ (t : Translator). plain (with_translator h t) 8) (next (Err Occupied) q refl)
+      go (Ok s) q e = absurd (false≢true e)
 
   -- a line event that its checks let pass is done
   pub event_done : (e n : ℕ) → fitting h (Event e n) ≡ true → (line_event (port_at h.ports (record { 0 = n })) (event_from e)).number ≡ 0

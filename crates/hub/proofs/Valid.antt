@@ -19,18 +19,22 @@ use Rattle.ports.specs.Sweep.{swept}
 use Rattle.ports.specs.Bitmap.{bitmap_of}
 use Rattle.port.specs.Words.{Among}
 use Rattle.buffer.specs.declared.Lane.{Lane}
+use Rattle.buffer.specs.declared.DeviceResult.{DeviceResult}
+use Rattle.buffer.specs.declared.StartSplit.{StartSplit}
+use Rattle.translator.specs.declared.NotLaunched.{NotLaunched}
+use Rattle.translator.specs.declared.NoResult.{NoResult}
 use Rattle.translator.specs.declared.Translator.{Translator}
-use Rattle.translator.specs.declared.CompleteAnswer.{CompleteAnswer}
-use Rattle.translator.specs.declared.CompleteAnswer.TheVariants.{NoMatch, NotYet, Gives}
-use Rattle.translator.specs.declared.LaunchAnswer.{LaunchAnswer}
-use Rattle.translator.specs.declared.LaunchAnswer.TheVariants.{NothingPending, Occupied, Launches}
+use Rattle.translator.specs.declared.NoResult.TheVariants.{NoMatch, NotYet}
+use Rattle.translator.specs.declared.NotLaunched.TheVariants.{NothingPending, Occupied}
 use Rattle.translator.specs.Translator.{emptied}
 use Rattle.translator.specs.Valid.{ValidTranslator}
 use Rattle.translator.specs.CompleteSplit.{complete_split}
 use Rattle.translator.specs.Launch.{launch}
 use Rattle.translator.proofs.Kept as translating
+use Rattle.std.specs.Prelude.{Result, Ok, Err}
+use Rattle.request.specs.declared.Fault.{Fault}
 use Rattle.request.specs.declared.Request.{Request}
-use Rattle.request.specs.declared.Request.TheVariants.{Wrong, SetConfiguration, GetConfiguration, GetHubDescriptor, GetHubStatus, GetPortStatus, ClearHubFeature, ClearPortFeature, SetPortFeature, ClearTTBuffer, ResetTT}
+use Rattle.request.specs.declared.Request.TheVariants.{SetConfiguration, GetConfiguration, GetHubDescriptor, GetHubStatus, GetPortStatus, ClearHubFeature, ClearPortFeature, SetPortFeature, ClearTTBuffer, ResetTT}
 use Rattle.request.specs.Request.{request_of}
 use Rattle.request.specs.Ranges.{InRange}
 use Rattle.request.proofs.Claimed.{request_claims_lem}
@@ -106,20 +110,20 @@ module _ (h : Hub) (v : ValidHub h) where
   only true e = refl
   only false e = e
 
-  request_valid : (y : Lane) (r : Request) → InRange h.identity.ports r → (h.configured || served_always r) ≡ true → ValidHub (by_request h y r).next
-  request_valid y (Wrong f) i e = v
-  request_valid y (SetConfiguration on) i e = configured_valid on
-  request_valid y GetConfiguration i e = v
-  request_valid y (GetHubDescriptor n) i e = v
-  request_valid y GetHubStatus i e = v
-  request_valid y (GetPortStatus n) i e = v
-  request_valid y ClearHubFeature i e = v
-  request_valid y (ClearPortFeature n f) i e = port_valid (only h.configured e) n i (input.ClearFeature f) tt
-  request_valid y (SetPortFeature n f) i e = port_valid (only h.configured e) n i (input.SetFeature f) tt
-  request_valid y (ClearTTBuffer k) i e = translator_valid _ (translating.clear_valid h.translator v.translator (keyed y k))
-  request_valid y ResetTT i e = translator_valid _ (translating.reset_valid h.translator v.translator y)
+  request_valid : (y : Lane) (r : Result Request Fault) → ((q : Request) → r ≡ Ok q → InRange h.identity.ports q) → (h.configured || served_always r) ≡ true → ValidHub (by_request h y r).next
+  request_valid y (Err f) i e = v
+  request_valid y (Ok (SetConfiguration on)) i e = configured_valid on
+  request_valid y (Ok GetConfiguration) i e = v
+  request_valid y (Ok (GetHubDescriptor n)) i e = v
+  request_valid y (Ok GetHubStatus) i e = v
+  request_valid y (Ok (GetPortStatus n)) i e = v
+  request_valid y (Ok ClearHubFeature) i e = v
+  request_valid y (Ok (ClearPortFeature n f)) i e = port_valid (only h.configured e) n (i _ refl) (input.ClearFeature f) tt
+  request_valid y (Ok (SetPortFeature n f)) i e = port_valid (only h.configured e) n (i _ refl) (input.SetFeature f) tt
+  request_valid y (Ok (ClearTTBuffer k)) i e = translator_valid _ (translating.clear_valid h.translator v.translator (keyed y k))
+  request_valid y (Ok ResetTT) i e = translator_valid _ (translating.reset_valid h.translator v.translator y)
 
-  requested_valid : (y : Lane) (r : Request) → InRange h.identity.ports r → ValidHub (requested h y r).next
+  requested_valid : (y : Lane) (r : Result Request Fault) → ((q : Request) → r ≡ Ok q → InRange h.identity.ports q) → ValidHub (requested h y r).next
   unfolding requested
   requested_valid y r i = go (h.configured || served_always r) refl
     where
@@ -155,15 +159,15 @@ module _ (h : Hub) (v : ValidHub h) where
   reset_valid = made_of false new_ports (emptied h.translator) (new_ports_lem h.identity.ports) empty_valid
 
 -- what answer a complete-split or a launch gives doesn't matter to the hub
-pub completed-next : (g : Hub) (a : CompleteAnswer) (p : Payload) → (completed_by g a p).next ≡ g
-completed-next g NoMatch p = refl
-completed-next g NotYet p = refl
-completed-next g (Gives r) p = refl
+pub completed-next : (g : Hub) (a : Result DeviceResult NoResult) (p : Payload) → (completed_by g a p).next ≡ g
+completed-next g (Err NoMatch) p = refl
+completed-next g (Err NotYet) p = refl
+completed-next g (Ok r) p = refl
 
-pub launched-next : (g : Hub) (a : LaunchAnswer) (p : Payload) → (launched_by g a p).next ≡ g
-launched-next g NothingPending p = refl
-launched-next g Occupied p = refl
-launched-next g (Launches s) p = refl
+pub launched-next : (g : Hub) (a : Result StartSplit NotLaunched) (p : Payload) → (launched_by g a p).next ≡ g
+launched-next g (Err NothingPending) p = refl
+launched-next g (Err Occupied) p = refl
+launched-next g (Ok s) p = refl
 
 module _ (h : Hub) (v : ValidHub h) where
   served_valid : (c : Call) → within h c ≡ true → fitting h c ≡ true → ValidHub (served h c).next

@@ -1,9 +1,10 @@
 -- Bench cases P1 to P13 of document 01, four ports, three buffers, in lane 0, and the three of its last line; then the cases of C-12 and of C-18.
 -- A reader must believe: each row has the calls of its case on a new hub, and all that document 01, as C-12 and C-18 correct it, answers to each of them.
 use Rattle.std.specs.Prelude.{ℕ, ◌≡◌, Bool, true, false, ◌&&◌, List, [], ◌∷◌, ◌++◌, eqb, replicate}
+use Rattle.std.specs.Result.{result_unwrap_or}
 use Rattle.payload.specs.Bytes.{same_bytes}
 use Rattle.hub.specs.declared.Hub.{Hub}
-use Rattle.hub.specs.Hub.{new_hub}
+use Rattle.hub.specs.Hub.{hub_of, new_hub}
 use Rattle.hub.specs.Call.{Call, Control, Poll, Start, Complete, Launch, Deliver, Event, Tick, BusReset, Answer, plain_answer, pid_answer}
 use Rattle.hub.specs.Step.{step}
 
@@ -14,7 +15,7 @@ pub record Row : Type 0 where
 
 -- four ports, so many buffers; power-good, current and removable hexadecimal 32, 64, 00
 abbrev pub hub_with : ℕ → Hub
-hub_with buffers = (new_hub 4 buffers 0x32 0x64 0x00).hub
+hub_with buffers = result_unwrap_or (new_hub 4 buffers 0x32 0x64 0x00) (hub_of 0 0 0 0 0)
 
 -- ---- calls and answers by their names
 

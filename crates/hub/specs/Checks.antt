@@ -1,6 +1,6 @@
 -- Internal, pinned by `Refusals` (crate `runs`), which says in document 01's words which call is refused with which number: for each call when
 -- each check refuses it, and the order of checks.
-use Rattle.std.specs.Prelude.{ℕ, Bool, true, false, not, ◌&&◌, eqb, leb, length}
+use Rattle.std.specs.Prelude.{ℕ, Bool, true, false, not, ◌&&◌, eqb, leb, length, Result, Ok, Err}
 use Rattle.port.specs.Events.{line_event}
 use Rattle.ports.specs.Ports.{port_at}
 use Rattle.buffer.specs.Lengths.{start_fits, result_length}
@@ -10,6 +10,8 @@ use Rattle.translator.specs.Answers.{launch_number, deliver_number}
 use Rattle.numbers.specs.Named.{is_result, result_from, is_event, event_from, port_named, is_lane}
 use Rattle.numbers.specs.Split.{split_named, split_from, key_named}
 use Rattle.hub.specs.declared.Hub.{Hub}
+use Rattle.hub.specs.declared.Refusal.{Refusal}
+use Rattle.hub.specs.declared.Refusal.TheVariants.{Outside, NoSpace, Unconfigured, NotInThisState}
 use Rattle.hub.specs.Call.{Call, Control, Poll, Start, Complete, Launch, Deliver, Event, Tick, BusReset}
 
 -- within the rules, else 6 a number or length outside the rules
@@ -69,6 +71,18 @@ fitting h BusReset = true
 abbrev pub unless : Bool → ℕ → ℕ → ℕ
 unless true refusal rest = rest
 unless false refusal rest = refusal
+
+-- the number of document 01 for each refusal
+abbrev pub refusal_number : Refusal → ℕ
+refusal_number Outside = 6
+refusal_number NoSpace = 7
+refusal_number Unconfigured = 5
+refusal_number NotInThisState = 8
+
+-- what the checks found, in numbers: 0 where they let a call pass
+abbrev pub checked_as : Result Unit Refusal → ℕ
+checked_as (Ok x) = 0
+checked_as (Err r) = refusal_number r
 
 -- Order where several apply: 6, 7, 5, 8, then the rest, which is 0 here.
 abbrev pub first_refusal : Bool → Bool → Bool → Bool → ℕ

@@ -1,6 +1,5 @@
 -- What is shown of every call. A reader must believe the rules and these statements; the proofs are in proofs/.
-use Rattle.std.specs.Prelude.{ℕ, ◌≤◌, ◌≡◌, ◌↔◌, true, false, [], length}
-use Rattle.std.proofs.Math.Option.{Option, none, some}
+use Rattle.std.specs.Prelude.{ℕ, ◌≤◌, ◌≡◌, ◌↔◌, true, false, [], length, Option, None, Some}
 use Rattle.translator.specs.Answers.{is_refusal}
 use Rattle.hub.specs.declared.Hub.{Hub}
 use Rattle.hub.specs.Hub.{new_fits, hub_of}
@@ -11,15 +10,15 @@ use Rattle.hub.specs.New.{NewOutside}
 
 -- the lane that it comes from, where a call carries one
 abbrev pub lane_of : Call → Option ℕ
-lane_of (Control z s room) = some z
-lane_of (Poll z room) = some z
-lane_of (Start z p t f g a e l) = some z
-lane_of (Complete z a e d room) = some z
-lane_of (Launch room) = none
-lane_of (Deliver r l) = none
-lane_of (Event e n) = none
-lane_of Tick = none
-lane_of BusReset = none
+lane_of (Control z s room) = Some z
+lane_of (Poll z room) = Some z
+lane_of (Start z p t f g a e l) = Some z
+lane_of (Complete z a e d room) = Some z
+lane_of (Launch room) = None
+lane_of (Deliver r l) = None
+lane_of (Event e n) = None
+lane_of Tick = None
+lane_of BusReset = None
 
 pub record HubClaims : Type 0 where
   -- no hub is made exactly if a number is bad
@@ -33,7 +32,7 @@ pub record HubClaims : Type 0 where
   pub identity_kept : (h : Hub) (c : Call) → (step h c).next.identity ≡ h.identity
   pub buffers_kept : (h : Hub) (c : Call) → (step h c).next.translator.count ≡ h.translator.count
   -- a lane outside 0 and 1 is 6, whatever else is wrong with the call
-  pub no_such_lane_lem : (h : Hub) (c : Call) (z : ℕ) → lane_of c ≡ some z → 2 ≤ z → step h c ≡ refuse 6 h
+  pub no_such_lane_lem : (h : Hub) (c : Call) (z : ℕ) → lane_of c ≡ Some z → 2 ≤ z → step h c ≡ refuse 6 h
   -- only data has bytes, and they fit in a reply space of 64
   pub bytes_of_data : (h : Hub) (c : Call) → ¬ ((step h c).answer.number ≡ 1) → (step h c).answer.bytes ≡ []
   pub bytes_fit : (h : Hub) → ValidHub h → (c : Call) → length (step h c).answer.bytes ≤ 64

@@ -1,5 +1,5 @@
 -- The hub's state. A reader must believe: what a hub is made from, what a new one is, and what each rule changes of it.
-use Rattle.std.specs.Prelude.{ℕ, ◌+◌, ◌^◌, ◌%◌, Bool, true, false, cond, ◌&&◌, List, eqb, leb, ltb}
+use Rattle.std.specs.Prelude.{ℕ, ◌+◌, ◌^◌, ◌%◌, Bool, true, false, cond, ◌&&◌, List, eqb, leb, ltb, Result, Ok, Err}
 use Rattle.port.specs.declared.Port.{Port}
 use Rattle.port.specs.declared.PortNumber.{PortNumber}
 use Rattle.ports.specs.declared.Sweep.{Sweep}
@@ -9,7 +9,8 @@ use Rattle.ports.specs.Sweep.{swept}
 use Rattle.translator.specs.declared.Translator.{Translator}
 use Rattle.translator.specs.Translator.{new_translator, emptied}
 use Rattle.hub.specs.declared.Hub.{Hub}
-use Rattle.hub.specs.declared.Made.{Made}
+use Rattle.hub.specs.declared.Refusal.{Refusal}
+use Rattle.hub.specs.declared.Refusal.TheVariants.{Outside}
 
 -- A new hub is made from N, B, power-good time, hub current (both 0 to 255) and a removable byte whose bit 0 and bits above N are zero.
 -- N ports, 1 to 7; B translator buffers, 2 to 4
@@ -29,8 +30,8 @@ hub_of n b g c r =
     }
 
 -- answer 0 and the hub; bad numbers give no hub and answer 6
-unfoldable pub new_hub : ℕ → ℕ → ℕ → ℕ → ℕ → Made
-new_hub n b g c r = cond (new_fits n b g c r) (record { number = 0; hub = hub_of n b g c r }) (record { number = 6; hub = hub_of 0 0 0 0 0 })
+unfoldable pub new_hub : ℕ → ℕ → ℕ → ℕ → ℕ → Result Hub Refusal
+new_hub n b g c r = cond (new_fits n b g c r) (Ok (hub_of n b g c r)) (Err Outside)
 
 -- ---- the hub with a part anew
 

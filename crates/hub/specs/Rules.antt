@@ -1,6 +1,6 @@
 -- What poll, the splits, launch, deliver and line events answer and leave, once no earlier check refuses them.
 -- A reader must believe: the bitmap's rule, and that the translator's and the port's own answers are handed on with their numbers.
-use Rattle.std.specs.Prelude.{ℕ, cond, List, [], ◌∷◌, eqb}
+use Rattle.std.specs.Prelude.{ℕ, cond, List, [], ◌∷◌, eqb, Err, Ok, Result}
 use Rattle.payload.specs.declared.Payload.{Payload}
 use Rattle.payload.specs.Payload.{content}
 use Rattle.port.specs.declared.PortNumber.{PortNumber}
@@ -12,13 +12,14 @@ use Rattle.ports.specs.Ports.{port_at}
 use Rattle.ports.specs.Bitmap.{bitmap_of}
 use Rattle.buffer.specs.declared.StartSplit.{StartSplit}
 use Rattle.buffer.specs.Key.{direction_of}
+use Rattle.buffer.specs.declared.DeviceResult.{DeviceResult}
+use Rattle.translator.specs.declared.NotLaunched.{NotLaunched}
+use Rattle.translator.specs.declared.NoResult.{NoResult}
 use Rattle.translator.specs.declared.Started.{Started}
 use Rattle.translator.specs.declared.Completed.{Completed}
-use Rattle.translator.specs.declared.CompleteAnswer.{CompleteAnswer}
-use Rattle.translator.specs.declared.CompleteAnswer.TheVariants.{NoMatch, NotYet, Gives}
+use Rattle.translator.specs.declared.NoResult.TheVariants.{NoMatch, NotYet}
 use Rattle.translator.specs.declared.Launched.{Launched}
-use Rattle.translator.specs.declared.LaunchAnswer.{LaunchAnswer}
-use Rattle.translator.specs.declared.LaunchAnswer.TheVariants.{NothingPending, Occupied, Launches}
+use Rattle.translator.specs.declared.NotLaunched.TheVariants.{NothingPending, Occupied}
 use Rattle.translator.specs.declared.Delivered.{Delivered}
 use Rattle.translator.specs.Answers.{start_number, complete_number, launch_number, deliver_number, result_pid, lane_number, pid_number}
 use Rattle.numbers.specs.Written.{type_number, direction_number}
@@ -36,10 +37,10 @@ abbrev pub started_as : Hub → Started → Outcome
 started_as h o = plain (with_translator h o.next) (start_number o.answer)
 
 -- a result: its number, its PID, and the bytes of data
-abbrev pub completed_by : Hub → CompleteAnswer → Payload → Outcome
-completed_by h NoMatch p = plain h (complete_number NoMatch)
-completed_by h NotYet p = plain h (complete_number NotYet)
-completed_by h (Gives r) p = record { next = h; answer = pid_answer (complete_number (Gives r)) (result_pid r) (content p) }
+abbrev pub completed_by : Hub → Result DeviceResult NoResult → Payload → Outcome
+completed_by h (Err NoMatch) p = plain h (complete_number (Err NoMatch))
+completed_by h (Err NotYet) p = plain h (complete_number (Err NotYet))
+completed_by h (Ok r) p = record { next = h; answer = pid_answer (complete_number (Ok r)) (result_pid r) (content p) }
 
 abbrev pub completed_as : Hub → Completed → Outcome
 completed_as h o = completed_by (with_translator h o.next) o.answer o.payload
@@ -48,7 +49,7 @@ completed_as h o = completed_by (with_translator h o.next) o.answer o.payload
 abbrev pub launch_answer : StartSplit → List ℕ → Answer
 launch_answer s l =
     record {
-      number = launch_number (Launches s);
+      number = launch_number (Ok s);
       pid = pid_number s.pid;
       transfer = type_number s.transfer;
       lane = lane_number s.lane;
@@ -60,10 +61,10 @@ launch_answer s l =
       bytes = l;
     }
 
-abbrev pub launched_by : Hub → LaunchAnswer → Payload → Outcome
-launched_by h NothingPending p = plain h (launch_number NothingPending)
-launched_by h Occupied p = plain h (launch_number Occupied)
-launched_by h (Launches s) p = record { next = h; answer = launch_answer s (content p) }
+abbrev pub launched_by : Hub → Result StartSplit NotLaunched → Payload → Outcome
+launched_by h (Err NothingPending) p = plain h (launch_number (Err NothingPending))
+launched_by h (Err Occupied) p = plain h (launch_number (Err Occupied))
+launched_by h (Ok s) p = record { next = h; answer = launch_answer s (content p) }
 
 abbrev pub launched_as : Hub → Launched → Outcome
 launched_as h o = launched_by (with_translator h o.next) o.answer o.payload

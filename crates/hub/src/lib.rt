@@ -2,7 +2,7 @@
 // with its answer.
 #![tactic(auto)]
 
-ghost use Rattle.std.specs.Prelude.{◌≡◌, ◌+◌, ◌≤◌, ◌^◌, min, take};
+ghost use Rattle.std.specs.Prelude.{◌≡◌, ◌+◌, ◌≤◌, ◌^◌, min, take, Ok};
 ghost use Rattle.payload.specs.Payload.{content};
 ghost use Rattle.port.specs.Method.{answered};
 ghost use Rattle.port.specs.Status.{status_bytes};
@@ -10,21 +10,21 @@ ghost use Rattle.ports.specs.Ports.{port_at};
 ghost use Rattle.ports.specs.Sweep.{swept};
 ghost use Rattle.hub.specs.Hub.{new_fits, hub_of, new_hub, with_ports, with_translator, with_port_at, configuration_sweep, configured_as};
 ghost use Rattle.hub.specs.Method.{outcome_of};
-ghost use Rattle.hub.specs.Call.{plain, done, stall, gives, gives_nothing, pid_answer};
+ghost use Rattle.hub.specs.Call.{plain, refuse, done, stall, gives, gives_nothing, pid_answer};
 ghost use Rattle.hub.specs.Call.Call.{Control, Poll, Start, Complete, Launch, Deliver, Event, Tick, BusReset};
 ghost use Rattle.hub.specs.Requests.{descriptor, keyed, set_feature, clear_feature, by_request, served_always, requested};
 ghost use Rattle.hub.specs.Rules.{completed_as, launched_as, stepped_at};
-ghost use Rattle.hub.specs.Checks.{first_refusal};
+ghost use Rattle.hub.specs.Checks.{refusal_number, checked_as, first_refusal};
 ghost use Rattle.hub.specs.Step.{step};
 ghost use Rattle.hub.specs.Claims.{HubClaims};
 ghost use Rattle.hub.specs.Cases.{BenchCases};
 
 use buffer::{BufferCount, Key, Lane};
 use payload::Payload;
-use port::{ClearableFeature, Port, PortCount, PortNumber, SettableFeature};
+use port::{ClearableFeature, NotInThisState, Port, PortCount, PortNumber, SettableFeature};
 use ports::Sweep;
-use request::{Pipe, Request};
-use translator::{CompleteAnswer, Completed, LaunchAnswer, Launched, Translator};
+use request::{Fault, Pipe, Request};
+use translator::{Completed, Launched, Translator};
 
 // What a hub is made from, but for the number of buffers, which its translator has.
 #[derive(Clone, Copy)]
@@ -44,11 +44,16 @@ pub struct Hub {
     pub translator: Translator,
 }
 
-// The hub that was made, or 6.
-#[derive(Clone, Copy)]
-pub struct Made {
-    pub number: u8,
-    pub hub: Hub,
+// Why a call is refused.
+#[derive(Clone, Copy, PartialEq, Eq)]
+pub enum Refusal {
+    // a number or length outside the rules
+    Outside,
+    // a reply space under 64 bytes
+    NoSpace,
+    // silent: the hub is unconfigured
+    Unconfigured,
+    NotInThisState,
 }
 
 // What a call answers; numbers that don't apply are 0.
@@ -80,6 +85,13 @@ fn answer(hub: Hub, number: u8) -> Stepped
     ensures { outcome_of result ≡ plain hub number }
 {
     reply_pid(hub, number, 0, Payload::none())
+}
+
+// Refused: nothing changed.
+fn refuse(hub: Hub, refusal: Refusal) -> Stepped
+    ensures { outcome_of result ≡ refuse (refusal_number refusal) hub }
+{
+    answer(hub, refusal.number())
 }
 
 // 0: done.
@@ -131,23 +143,42 @@ fn give_data(hub: Hub, payload: Payload) -> Stepped
     reply_pid(hub, 1, 0, payload)
 }
 
-// The order of checks: 6, 7, 5, 8, then the rest.
-pub fn first_refusal(within: bool, space: bool, configured: bool, fitting: bool) -> u8
-    ensures { result ≡ first_refusal within space configured fitting }
-{
-    if within {
-        if space {
-            if configured {
-                if fitting { 0 } else { 8 }
-            } else {
-                5
-            }
-        } else {
-            7
+impl Refusal {
+    // The number of document 01.
+    pub fn number(self) -> u8
+        ensures { result ≡ refusal_number self }
+    {
+        match self {
+            Refusal::Outside => 6,
+            Refusal::NoSpace => 7,
+            Refusal::Unconfigured => 5,
+            Refusal::NotInThisState => 8,
         }
-    } else {
-        6
     }
+}
+
+// The order of checks: 6, 7, 5, 8, then the rest.
+pub fn first_refusal(
+    within: bool,
+    space: bool,
+    configured: bool,
+    fitting: bool,
+) -> Result<(), Refusal>
+    ensures { checked_as result ≡ first_refusal within space configured fitting }
+{
+    if !within {
+        return Err(Refusal::Outside);
+    }
+    if !space {
+        return Err(Refusal::NoSpace);
+    }
+    if !configured {
+        return Err(Refusal::Unconfigured);
+    }
+    if !fitting {
+        return Err(Refusal::NotInThisState);
+    }
+    Ok(())
 }
 
 // ---- the state
@@ -172,66 +203,46 @@ fn above_port(n: u32) -> u32
 fn can_be_made(ports: u32, buffers: u32, powergood: u32, current: u32, removable: u32) -> bool
     ensures { result ≡ new_fits ports buffers powergood current removable }
 {
-    bools::both(
-        bools::both(
-            bools::both(1 <= ports, ports <= 7),
-            bools::both(2 <= buffers, buffers <= 4),
-        ),
-        bools::both(
-            bools::both(powergood < 256, current < 256),
-            bools::both(removable % 2 == 0, removable < above_port(ports)),
-        ),
-    )
+    ((1 <= ports) & (ports <= 7) & ((2 <= buffers) & (buffers <= 4)))
+        & ((powergood < 256)
+            & (current < 256)
+            & ((removable % 2 == 0) & (removable < above_port(ports))))
 }
 
 impl Hub {
-    // A new hub from its five numbers, or 6.
+    // A new hub from its five numbers.
     #[tactic(auto, unfolding(crate::specs::Hub::new_hub))]
-    pub fn new(ports: u32, buffers: u32, powergood: u32, current: u32, removable: u32) -> Made
+    pub fn new(
+        ports: u32,
+        buffers: u32,
+        powergood: u32,
+        current: u32,
+        removable: u32,
+    ) -> Result<Hub, Refusal>
         ensures { result ≡ new_hub ports buffers powergood current removable }
     {
-        if can_be_made(ports, buffers, powergood, current, removable) {
-            return Made {
-                number: 0,
-                hub: hub_of(
-                    PortCount((ports % 256) as u8),
-                    BufferCount((buffers % 256) as u8),
-                    (powergood % 256) as u8,
-                    (current % 256) as u8,
-                    (removable % 256) as u8,
-                ),
-            };
+        if !can_be_made(ports, buffers, powergood, current, removable) {
+            return Err(Refusal::Outside);
         }
-        Made {
-            number: 6,
-            hub: hub_of(PortCount(0), BufferCount(0), 0, 0, 0),
-        }
+        Ok(hub_of(
+            PortCount((ports % 256) as u8),
+            BufferCount((buffers % 256) as u8),
+            (powergood % 256) as u8,
+            (current % 256) as u8,
+            (removable % 256) as u8,
+        ))
     }
 
     fn with_ports(self, ports: [Port; 7]) -> Hub
         ensures { result ≡ with_ports self ports }
     {
-        let identity = self.identity;
-        let translator = self.translator;
-        Hub {
-            identity,
-            configured: self.configured,
-            ports,
-            translator,
-        }
+        Hub { ports, ..self }
     }
 
     fn with_translator(self, translator: Translator) -> Hub
         ensures { result ≡ with_translator self translator }
     {
-        let identity = self.identity;
-        let ports = self.ports;
-        Hub {
-            identity,
-            configured: self.configured,
-            ports,
-            translator,
-        }
+        Hub { translator, ..self }
     }
 
     pub fn port_count(self) -> PortCount
@@ -243,31 +254,29 @@ impl Hub {
     fn port(self, n: PortNumber) -> Port
         ensures { result ≡ port_at self.ports n }
     {
-        let ports = self.ports;
-        ports::port_at(ports, n)
+        ports::port_at(self.ports, n)
     }
 
     fn with_port(self, n: PortNumber, port: Port) -> Hub
         ensures { result ≡ with_port_at self n port }
     {
-        let ports = self.ports;
-        self.with_ports(ports::with_port(ports, n, port))
+        self.with_ports(ports::with_port(self.ports, n, port))
     }
 
-    // What a step of port n leaves and answers.
-    fn with_step(self, n: PortNumber, o: port::Stepped) -> Stepped
-        ensures { outcome_of result ≡ stepped_at self n (answered o) }
+    // What a line event at port n leaves and answers.
+    fn with_event(self, n: PortNumber, after: Result<Port, NotInThisState>) -> Stepped
+        ensures { outcome_of result ≡ stepped_at self n (answered (port_at self.ports n) after) }
     {
-        let next = o.port;
-        let said = o.answer;
-        answer(self.with_port(n, next), said.number())
+        match after {
+            Ok(port) => done(self.with_port(n, port)),
+            Err(NotInThisState) => refuse(self, Refusal::NotInThisState),
+        }
     }
 
     fn sweep(self, what: Sweep) -> [Port; 7]
         ensures { result ≡ swept what self.identity.ports self.ports }
     {
-        let ports = self.ports;
-        ports::sweep_first(ports, self.port_count(), what)
+        ports::sweep_first(self.ports, self.port_count(), what)
     }
 
     // SetConfiguration.
@@ -275,14 +284,11 @@ impl Hub {
     fn configure(self, on: bool) -> Hub
         ensures { result ≡ configured_as on self }
     {
-        let identity = self.identity;
-        let translator = self.translator;
-        let ports = self.sweep(configuration_sweep(on));
         Hub {
-            identity,
             configured: on,
-            ports,
-            translator: translator.empty(),
+            ports: self.sweep(configuration_sweep(on)),
+            translator: self.translator.empty(),
+            ..self
         }
     }
 }
@@ -316,36 +322,25 @@ fn configuration_sweep(on: bool) -> Sweep
 // ---- control requests
 
 fn is_served_always(request: Request) -> bool
-    ensures { result ≡ served_always request }
+    ensures { result ≡ served_always (Ok request) }
 {
-    match request {
-        Request::Wrong(_) => false,
-        Request::SetConfiguration(_) => true,
-        Request::GetConfiguration => true,
-        Request::GetHubDescriptor(_) => true,
-        Request::GetHubStatus => false,
-        Request::GetPortStatus(_) => false,
-        Request::ClearHubFeature => false,
-        Request::ClearPortFeature(_, _) => false,
-        Request::SetPortFeature(_, _) => false,
-        Request::ClearTTBuffer(_) => false,
-        Request::ResetTT => false,
-    }
+    matches!(
+        request,
+        Request::SetConfiguration(_) | Request::GetConfiguration | Request::GetHubDescriptor(_)
+    )
 }
 
 // A key of the lane that asks.
 fn keyed(lane: Lane, pipe: Pipe) -> Key
     ensures { result ≡ keyed lane pipe }
 {
-    let address = pipe.address;
-    let direction = pipe.direction;
-    Key::new(lane, address, pipe.endpoint, direction)
+    Key::new(lane, pipe.address, pipe.endpoint, pipe.direction)
 }
 
 fn cut(n: u16) -> usize
     ensures { result ≡ min n 9 }
 {
-    if n < 9 { n as usize } else { 9 }
+    usize::from(n.min(9))
 }
 
 impl Hub {
@@ -381,38 +376,35 @@ impl Hub {
     fn clear_feature(self, n: PortNumber, feature: ClearableFeature) -> Stepped
         ensures { outcome_of result ≡ done (clear_feature self n feature) }
     {
-        self.with_step(n, self.port(n).clear_feature(feature))
+        done(self.with_port(n, self.port(n).clear_feature(feature)))
     }
 
     #[inline(never)]
     fn set_feature(self, n: PortNumber, feature: SettableFeature) -> Stepped
         ensures { outcome_of result ≡ done (set_feature self n feature) }
     {
-        self.with_step(n, self.port(n).set_feature(feature))
+        done(self.with_port(n, self.port(n).set_feature(feature)))
     }
 
     #[inline(never)]
     fn clear_buffer(self, lane: Lane, pipe: Pipe) -> Stepped
-        ensures { outcome_of result ≡ by_request self lane (Request.ClearTTBuffer pipe) }
+        ensures { outcome_of result ≡ by_request self lane (Ok (Request.ClearTTBuffer pipe)) }
     {
-        let translator = self.translator;
-        done(self.with_translator(translator.clear_buffer(keyed(lane, pipe))))
+        done(self.with_translator(self.translator.clear_buffer(keyed(lane, pipe))))
     }
 
     #[inline(never)]
     fn reset_lane(self, lane: Lane) -> Stepped
-        ensures { outcome_of result ≡ by_request self lane Request.ResetTT }
+        ensures { outcome_of result ≡ by_request self lane (Ok Request.ResetTT) }
     {
-        let translator = self.translator;
-        done(self.with_translator(translator.reset_lane(lane)))
+        done(self.with_translator(self.translator.reset_lane(lane)))
     }
 
     #[tactic(auto, unfolding(payload::specs::Payload::padded, payload::specs::Payload::payload_of))]
     fn by_request(self, lane: Lane, request: Request) -> Stepped
-        ensures { outcome_of result ≡ by_request self lane request }
+        ensures { outcome_of result ≡ by_request self lane (Ok request) }
     {
         match request {
-            Request::Wrong(_) => stall(self),
             Request::SetConfiguration(on) => done(self.configure(on)),
             Request::GetConfiguration => give_data(
                 self,
@@ -429,10 +421,14 @@ impl Hub {
         }
     }
 
-    fn serve(self, lane: Lane, request: Request) -> Stepped
-        ensures { outcome_of result ≡ requested self lane request }
+    #[tactic(auto, unfolding(crate::specs::Requests::requested))]
+    fn serve(self, lane: Lane, asked: Result<Request, Fault>) -> Stepped
+        ensures { outcome_of result ≡ requested self lane asked }
     {
-        if bools::either(self.configured, is_served_always(request)) {
+        let Ok(request) = asked else {
+            return stall(self);
+        };
+        if self.configured || is_served_always(request) {
             return self.by_request(lane, request);
         }
         stall(self)
@@ -446,21 +442,12 @@ impl Hub {
     pub fn control(self, lane: u32, setup: &[u8], room: usize) -> Stepped
         ensures { outcome_of result ≡ step self (Control lane setup.now room) }
     {
-        let refusal = first_refusal(
-            bools::both(setup.len() == 8, numbers::is_lane(lane)),
-            64 <= room,
-            true,
-            true,
-        );
-        if setup.len() != 8 {
-            return answer(self, refusal);
+        let Ok(bytes) = <[u8; 8]>::try_from(setup) else {
+            return refuse(self, Refusal::Outside);
+        };
+        if let Err(refusal) = first_refusal(numbers::is_lane(lane), 64 <= room, true, true) {
+            return refuse(self, refusal);
         }
-        if refusal != 0 {
-            return answer(self, refusal);
-        }
-        let bytes = [
-            setup[0], setup[1], setup[2], setup[3], setup[4], setup[5], setup[6], setup[7],
-        ];
         self.serve(
             numbers::lane_of(lane),
             request::read(bytes, self.port_count()),
@@ -471,12 +458,15 @@ impl Hub {
     pub fn poll(self, lane: u32, room: usize) -> Stepped
         ensures { outcome_of result ≡ step self (Poll lane room) }
     {
-        let ports = self.ports;
-        let refusal = first_refusal(numbers::is_lane(lane), 64 <= room, self.configured, true);
-        if refusal != 0 {
-            return answer(self, refusal);
+        if let Err(refusal) = first_refusal(
+            numbers::is_lane(lane),
+            64 <= room,
+            self.configured,
+            true,
+        ) {
+            return refuse(self, refusal);
         }
-        let bitmap = ports::bitmap(ports, self.port_count());
+        let bitmap = ports::bitmap(self.ports, self.port_count());
         if bitmap == 0 {
             return give_nothing(self);
         }
@@ -497,18 +487,17 @@ impl Hub {
     ) -> Stepped
         ensures { outcome_of result ≡ step self (Start lane pid transfer lowspeed toggle address endpoint payload.now) }
     {
-        let translator = self.translator;
         let split = numbers::split_of(lane, pid, transfer, lowspeed, toggle, address, endpoint);
         let named = numbers::split_named(lane, pid, transfer, lowspeed, toggle, address, endpoint);
-        let within = bools::both(named, split.fits(payload.len()));
-        let refusal = first_refusal(within, true, self.configured, true);
-        if refusal != 0 {
-            return answer(self, refusal);
+        let within = named & split.fits(payload.len());
+        if let Err(refusal) = first_refusal(within, true, self.configured, true) {
+            return refuse(self, refusal);
         }
-        let o = translator.start_split(split, payload);
-        let said = o.answer;
-        let next = o.next;
-        answer(self.with_translator(next), numbers::start_answer(said))
+        let o = self.translator.start_split(split, payload);
+        answer(
+            self.with_translator(o.next),
+            numbers::start_answer(o.answer),
+        )
     }
 
     #[tactic(auto, unfolding(crate::specs::Checks::within, crate::specs::Checks::has_space, crate::specs::Checks::not_silent, crate::specs::Checks::fitting, crate::specs::Step::served))]
@@ -522,31 +511,24 @@ impl Hub {
     ) -> Stepped
         ensures { outcome_of result ≡ step self (Complete lane address endpoint direction room) }
     {
-        let translator = self.translator;
         let named = numbers::key_named(lane, address, endpoint, direction);
-        let refusal = first_refusal(named, 64 <= room, self.configured, true);
-        if refusal != 0 {
-            return answer(self, refusal);
+        if let Err(refusal) = first_refusal(named, 64 <= room, self.configured, true) {
+            return refuse(self, refusal);
         }
-        self.completed(translator.complete_split(numbers::key_of(
-            lane, address, endpoint, direction,
-        )))
+        self.completed(
+            self.translator
+                .complete_split(numbers::key_of(lane, address, endpoint, direction)),
+        )
     }
 
     fn completed(self, o: Completed) -> Stepped
         ensures { outcome_of result ≡ completed_as self o }
     {
-        let next = o.next;
-        let said = o.answer;
-        let payload = o.payload;
-        let mut s = answer(self.with_translator(next), numbers::complete_answer(said));
-        match said {
-            CompleteAnswer::NoMatch => {}
-            CompleteAnswer::NotYet => {}
-            CompleteAnswer::Gives(result) => {
-                s.reply.pid = numbers::complete_pid(result);
-                s.payload = payload;
-            }
+        let number = numbers::complete_answer(o.answer);
+        let mut s = answer(self.with_translator(o.next), number);
+        if let Ok(result) = o.answer {
+            s.reply.pid = numbers::complete_pid(result);
+            s.payload = o.payload;
         }
         s
     }
@@ -555,13 +537,10 @@ impl Hub {
     pub fn launch(self, room: usize) -> Stepped
         ensures { outcome_of result ≡ step self (Launch room) }
     {
-        let translator = self.translator;
-        let o = translator.launch();
-        let said = o.answer;
-        let fits = numbers::launch_answer(said) != 8;
-        let refusal = first_refusal(true, 64 <= room, self.configured, fits);
-        if refusal != 0 {
-            return answer(self, refusal);
+        let o = self.translator.launch();
+        let fits = numbers::launch_answer(o.answer) != 8;
+        if let Err(refusal) = first_refusal(true, 64 <= room, self.configured, fits) {
+            return refuse(self, refusal);
         }
         self.launched(o)
     }
@@ -569,27 +548,18 @@ impl Hub {
     fn launched(self, o: Launched) -> Stepped
         ensures { outcome_of result ≡ launched_as self o }
     {
-        let next = o.next;
-        let said = o.answer;
-        let payload = o.payload;
-        let mut s = answer(self.with_translator(next), numbers::launch_answer(said));
-        match said {
-            LaunchAnswer::NothingPending => {}
-            LaunchAnswer::Occupied => {}
-            LaunchAnswer::Launches(split) => {
-                let pid = split.pid;
-                let transfer = split.transfer;
-                let lane = split.lane;
-                s.reply.pid = numbers::pid_number(pid);
-                s.reply.transfer = numbers::type_number(transfer);
-                s.reply.lane = numbers::lane_number(lane);
-                s.reply.address = split.address.0;
-                s.reply.endpoint = split.endpoint;
-                s.reply.direction = numbers::direction_number(pid.direction());
-                s.reply.lowspeed = numbers::flag_number(split.lowspeed);
-                s.reply.toggle = numbers::flag_number(split.toggle);
-                s.payload = payload;
-            }
+        let number = numbers::launch_answer(o.answer);
+        let mut s = answer(self.with_translator(o.next), number);
+        if let Ok(split) = o.answer {
+            s.reply.pid = numbers::pid_number(split.pid);
+            s.reply.transfer = numbers::type_number(split.transfer);
+            s.reply.lane = numbers::lane_number(split.lane);
+            s.reply.address = split.address.0;
+            s.reply.endpoint = split.endpoint;
+            s.reply.direction = numbers::direction_number(split.pid.direction());
+            s.reply.lowspeed = numbers::flag_number(split.lowspeed);
+            s.reply.toggle = numbers::flag_number(split.toggle);
+            s.payload = o.payload;
         }
         s
     }
@@ -598,18 +568,14 @@ impl Hub {
     pub fn deliver(self, res: u32, payload: &[u8]) -> Stepped
         ensures { outcome_of result ≡ step self (Deliver res payload.now) }
     {
-        let translator = self.translator;
         let kind = numbers::result_of(res);
-        let within = bools::both(numbers::is_result(res), kind.carries(payload.len()));
-        let o = translator.deliver(kind, payload);
-        let said = o.answer;
-        let next = o.next;
-        let number = numbers::deliver_answer(said);
-        let refusal = first_refusal(within, true, self.configured, number != 8);
-        if refusal != 0 {
-            return answer(self, refusal);
+        let within = numbers::is_result(res) & kind.carries(payload.len());
+        let o = self.translator.deliver(kind, payload);
+        let number = numbers::deliver_answer(o.answer);
+        if let Err(refusal) = first_refusal(within, true, self.configured, number != 8) {
+            return refuse(self, refusal);
         }
-        answer(self.with_translator(next), number)
+        answer(self.with_translator(o.next), number)
     }
 
     #[tactic(auto, unfolding(crate::specs::Checks::within))]
@@ -617,16 +583,12 @@ impl Hub {
     pub fn line_event(self, event: u32, port: u32) -> Stepped
         ensures { outcome_of result ≡ step self (Event event port) }
     {
-        let within = bools::both(
-            numbers::is_event(event),
-            numbers::port_named(self.port_count(), port),
-        );
-        let refusal = first_refusal(within, true, true, self.configured);
-        if refusal != 0 {
-            return answer(self, refusal);
+        let within = numbers::is_event(event) & numbers::port_named(self.port_count(), port);
+        if let Err(refusal) = first_refusal(within, true, true, self.configured) {
+            return refuse(self, refusal);
         }
         let n = PortNumber(port);
-        self.with_step(n, self.port(n).line_event(numbers::event_of(event)))
+        self.with_event(n, self.port(n).line_event(numbers::event_of(event)))
     }
 
     #[tactic(auto, unfolding(crate::specs::Checks::within, crate::specs::Checks::has_space, crate::specs::Checks::not_silent, crate::specs::Checks::fitting, crate::specs::Step::served, crate::specs::Step::step, crate::specs::Hub::ticked_hub))]
@@ -643,15 +605,12 @@ impl Hub {
     pub fn bus_reset(self) -> Stepped
         ensures { outcome_of result ≡ step self BusReset }
     {
-        let identity = self.identity;
-        let translator = self.translator;
-        let hub = Hub {
-            identity,
+        done(Hub {
             configured: false,
             ports: ports::new_ports(),
-            translator: translator.empty(),
-        };
-        done(hub)
+            translator: self.translator.empty(),
+            ..self
+        })
     }
 }
 

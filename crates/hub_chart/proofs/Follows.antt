@@ -3,7 +3,7 @@
 use Prim.Native.Nat.{ℕ, zero, suc, ◌≤◌}
 use native.Mathlib.Omega.{arith}
 use mathlib.Core.Path.{◌≡◌, refl, ◌∙◌, ap}
-use mathlib.Core.Bool.{Bool, true, false, not, cond, ◌||◌, or-true, false≢true}
+use mathlib.Core.Bool.{Bool, true, false, not, cond, ◌||◌, or-true}
 use borrow.Author.Tests.{le-leb}
 use Rattle.port.specs.declared.PortState.TheVariants.{NotConfigured}
 use Rattle.port.specs.declared.Port.{Port}
@@ -24,13 +24,14 @@ use Rattle.ports.proofs.Laws.{ports_claims_lem}
 use Rattle.numbers.specs.Named.{is_lane, lane_from}
 use Rattle.numbers.specs.Written.{event_number}
 use Rattle.numbers.proofs.Laws.{numbers_claims_lem}
-use Rattle.request.specs.declared.Fault.{Fault}
+use Rattle.std.specs.Prelude.{Ok}
 use Rattle.request.specs.declared.Request.{Request}
-use Rattle.request.specs.declared.Request.TheVariants.{Wrong, SetConfiguration, ClearPortFeature, SetPortFeature}
+use Rattle.request.specs.declared.Request.TheVariants.{SetConfiguration, ClearPortFeature, SetPortFeature}
 use Rattle.request.specs.Setup.{setup_of}
 use Rattle.request.specs.Request.{request_of}
 use Rattle.request.proofs.Exact.{reads}
 use Rattle.hub.specs.declared.Hub.{Hub}
+use Rattle.hub.specs.declared.Refusal.TheVariants.{NotInThisState}
 use Rattle.hub.specs.Hub.{configuration_sweep, configured_as, reset_hub, ticked_hub}
 use Rattle.hub.specs.Call.{Call, Event, Tick, BusReset, Outcome, refuse}
 use Rattle.hub.specs.Requests.{requested}
@@ -96,11 +97,11 @@ module _ (h : Hub) (v : ValidHub h) (m : PortNumber) (among : Among h.identity.p
   either {P} f g = by_bool (λ b. h.configured ≡ b → P) f g h.configured refl
 
   -- a control request is served as the request that it asks for
-  by_request_lem : (r : Request) (x : Answered) (c : Call) → ((f : Fault) → ¬ (r ≡ Wrong f)) → ((z : ℕ) → As (requested h (lane_from z) r) x)
+  by_request_lem : (r : Request) (x : Answered) (c : Call) → ((z : ℕ) → As (requested h (lane_from z) (Ok r)) x)
       → Asked h.identity.ports r c → As (step h c) x
   unfolding step within has_space not_silent fitting served request_of
-  by_request_lem r x c right rule a =
-      let asked = reads h.identity.ports (setup_of a.setup) r right a.asks in
+  by_request_lem r x c rule a =
+      let asked = reads h.identity.ports (setup_of a.setup) r a.asks in
       rw (a.is, a.eight, is_lane_lem a.lane a.two_lanes, le-leb 64 a.room a.space, asked) (rule a.lane)
 
   -- a port request: done on a configured hub, 2 on an unconfigured one
@@ -110,7 +111,7 @@ module _ (h : Hub) (v : ValidHub h) (m : PortNumber) (among : Among h.identity.p
 
   -- SetConfiguration is served always
   set_configuration : (on : Bool) (z : ℕ)
-      → As (requested h (lane_from z) (SetConfiguration on)) (done_with (swept_by (configuration_sweep on) here))
+      → As (requested h (lane_from z) (Ok (SetConfiguration on))) (done_with (swept_by (configuration_sweep on) here))
   unfolding requested configured_as
   set_configuration on z = rw (or-true h.configured) (refl, swept_here (configuration_sweep on))
 
@@ -121,8 +122,8 @@ module _ (h : Hub) (v : ValidHub h) (m : PortNumber) (among : Among h.identity.p
       let k = event_number e in
       let n = numbers_claims_lem.events in
       let named : true ≡ within h (Event k m.0) = rw (n.named e, (numbers_claims_lem.port_range h.identity.ports m.0).1 among) in
-      either (λ on. rw (← (event_stepped h k m.0 {o = event_at h e m} (rw on) named refl (rw (n.value_back e)))) (set_here _))
-      (λ off. rw (← (event_refused h k m.0 {m = 8} refl (rw off) named (λ z. omega (arith, z))), at_rest off, no_event e _) (refl, refl))
+      either (λ on. rw (← (event_stepped h k m.0 {o = event_at h e m} (rw on) named (rw (n.value_back e)))) (set_here _))
+      (λ off. rw (← (event_refused h k m.0 NotInThisState refl (rw off) named), at_rest off, no_event e _) (refl, refl))
 
   -- a tick sweeps the ports of a configured hub, and does nothing at a port that is Not Configured
   tick : As (step h Tick) (by_rules here input.Tick)
@@ -139,10 +140,10 @@ module _ (h : Hub) (v : ValidHub h) (m : PortNumber) (among : Among h.identity.p
   unfolding requested
   by_input (input.Event e) c b = rw b (event e)
   by_input input.Tick c b = rw b tick
-  by_input (input.SetFeature f) c b = by_request_lem (SetPortFeature m f) _ c (λ g e. false≢true (cc)) (λ z. port_request _) b
-  by_input (input.ClearFeature f) c b = by_request_lem (ClearPortFeature m f) _ c (λ g e. false≢true (cc)) (λ z. port_request _) b
-  by_input input.Configure c b = by_request_lem _ _ c (λ g e. false≢true (cc)) (set_configuration true) b
-  by_input input.Unconfigure c b = by_request_lem _ _ c (λ g e. false≢true (cc)) (set_configuration false) b
+  by_input (input.SetFeature f) c b = by_request_lem (SetPortFeature m f) _ c (λ z. port_request _) b
+  by_input (input.ClearFeature f) c b = by_request_lem (ClearPortFeature m f) _ c (λ z. port_request _) b
+  by_input input.Configure c b = by_request_lem _ _ c (set_configuration true) b
+  by_input input.Unconfigure c b = by_request_lem _ _ c (set_configuration false) b
   by_input input.BusReset c b = rw b bus_reset_lem
 
 -- the rules say it of every valid hub, ..

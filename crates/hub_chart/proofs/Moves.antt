@@ -2,7 +2,7 @@
 use Prim.Native.Nat.{ℕ, ◌≤◌, ◌<◌}
 use native.Mathlib.Omega.{arith}
 use mathlib.Core.Path.{◌≡◌, refl, sym, ap}
-use mathlib.Core.Bool.{Bool, true, false, cond, ◌&&◌, ◌||◌, and-eq-true_iff, false≢true}
+use mathlib.Core.Bool.{Bool, true, false, cond, ◌&&◌, ◌||◌, and-eq-true_iff}
 use mathlib.Core.List.{List}
 use lib.Dec.{eqb, leb}
 use lib.ListN.{length}
@@ -20,8 +20,9 @@ use Rattle.translator.specs.Answers.{lane_number}
 use Rattle.numbers.specs.Named.{is_lane, lane_from, event_from, is_event, port_named}
 use Rattle.numbers.proofs.Laws.{numbers_claims_lem}
 use Rattle.request.specs.declared.Fault.{Fault}
+use Rattle.std.specs.Prelude.{Result, Ok, Err}
 use Rattle.request.specs.declared.Request.{Request}
-use Rattle.request.specs.declared.Request.TheVariants.{Wrong, SetConfiguration, GetConfiguration, GetHubDescriptor, GetHubStatus, GetPortStatus, ClearHubFeature, ClearPortFeature, SetPortFeature, ClearTTBuffer, ResetTT}
+use Rattle.request.specs.declared.Request.TheVariants.{SetConfiguration, GetConfiguration, GetHubDescriptor, GetHubStatus, GetPortStatus, ClearHubFeature, ClearPortFeature, SetPortFeature, ClearTTBuffer, ResetTT}
 use Rattle.request.specs.Setup.{setup_of}
 use Rattle.request.specs.Request.{request_of}
 use Rattle.request.proofs.Claimed.{request_claims_lem}
@@ -62,26 +63,26 @@ module _ (h : Hub) (m : PortNumber) where
       (eqb k.0 m.0) refl
 
   -- a request that is served: the configuration and the port features move ports
-  request : (c : Call) (y : Lane) (r : Request) → (((f : Fault) → ¬ (r ≡ Wrong f)) → Asked count r c) → Told c (by_request h y r)
-  request c y (Wrong f) a = kept refl
-  request c y (SetConfiguration true) a = λ moved. (input.Configure, a (λ g w. false≢true (cc)))
-  request c y (SetConfiguration false) a = λ moved. (input.Unconfigure, a (λ g w. false≢true (cc)))
-  request c y GetConfiguration a = kept refl
-  request c y (GetHubDescriptor n) a = kept refl
-  request c y GetHubStatus a = kept refl
-  request c y (GetPortStatus n) a = kept refl
-  request c y ClearHubFeature a = kept refl
-  request c y (ClearPortFeature k f) a = set_at k _ (λ e. (input.ClearFeature f, rw e at (a (λ g w. false≢true (cc)))))
-  request c y (SetPortFeature k f) a = set_at k _ (λ e. (input.SetFeature f, rw e at (a (λ g w. false≢true (cc)))))
-  request c y (ClearTTBuffer k) a = kept refl
-  request c y ResetTT a = kept refl
+  request : (c : Call) (y : Lane) (r : Result Request Fault) → ((q : Request) → r ≡ Ok q → Asked count q c) → Told c (by_request h y r)
+  request c y (Err f) a = kept refl
+  request c y (Ok (SetConfiguration true)) a = λ moved. (input.Configure, a _ refl)
+  request c y (Ok (SetConfiguration false)) a = λ moved. (input.Unconfigure, a _ refl)
+  request c y (Ok GetConfiguration) a = kept refl
+  request c y (Ok (GetHubDescriptor n)) a = kept refl
+  request c y (Ok GetHubStatus) a = kept refl
+  request c y (Ok (GetPortStatus n)) a = kept refl
+  request c y (Ok ClearHubFeature) a = kept refl
+  request c y (Ok (ClearPortFeature k f)) a = set_at k _ (λ e. (input.ClearFeature f, rw e at (a _ refl)))
+  request c y (Ok (SetPortFeature k f)) a = set_at k _ (λ e. (input.SetFeature f, rw e at (a _ refl)))
+  request c y (Ok (ClearTTBuffer k)) a = kept refl
+  request c y (Ok ResetTT) a = kept refl
 
   -- a control request: refused, not served, or served as what it asks for
   control : (z : ℕ) (s : List ℕ) (room : ℕ) → (setup_of s).value < 65536 → Told (Control z s room) (step h (Control z s room))
   unfolding step within has_space not_silent fitting served requested
   control z s room two = go (eqb (length s) 8) (is_lane z) (leb 64 room) (h.configured || served_always r) refl refl refl
     where
-      r : Request
+      r : Result Request Fault
       r = request_of count s
 
       c : Call
@@ -90,7 +91,7 @@ module _ (h : Hub) (m : PortNumber) where
       go : (a b d x : Bool) → eqb (length s) 8 ≡ a → is_lane z ≡ b → leb 64 room ≡ d
           → (let n = first_refusal (a && b) d true true in Told c (cond (eqb n 0) (cond x (by_request h (lane_from z) r) (refuse 2 h)) (refuse n h)))
       go true true true true e l p =
-          request c (lane_from z) r (λ right.
+          request c (lane_from z) r (λ q read.
           record {
             lane = z;
             setup = s;
@@ -99,7 +100,7 @@ module _ (h : Hub) (m : PortNumber) where
             two_lanes = rw (numbers_claims_lem.lanes.number_back z l) at (lane_most (lane_from z));
             eight = eqb-true (length s) 8 e;
             space = leb-true 64 room p;
-            asks = (request_claims_lem.exact count s r right two).0 refl;
+            asks = (request_claims_lem.exact count s q two).0 read;
           })
       go true true true false e l p = kept refl
       go true true false x e l p = kept refl

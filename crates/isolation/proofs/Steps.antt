@@ -20,19 +20,23 @@ use Rattle.ports.specs.Ports.{port_at, with_port}
 use Rattle.ports.specs.Bitmap.{bitmap_of}
 use Rattle.ports.specs.Sweep.{swept}
 use Rattle.buffer.specs.declared.Lane.{Lane}
+use Rattle.buffer.specs.declared.DeviceResult.{DeviceResult}
+use Rattle.buffer.specs.declared.StartSplit.{StartSplit}
+use Rattle.translator.specs.declared.NotLaunched.{NotLaunched}
+use Rattle.translator.specs.declared.NoResult.{NoResult}
 use Rattle.translator.specs.declared.Translator.{Translator}
-use Rattle.translator.specs.declared.CompleteAnswer.{CompleteAnswer}
-use Rattle.translator.specs.declared.CompleteAnswer.TheVariants.{NoMatch, NotYet, Gives}
-use Rattle.translator.specs.declared.LaunchAnswer.{LaunchAnswer}
-use Rattle.translator.specs.declared.LaunchAnswer.TheVariants.{NothingPending, Occupied, Launches}
+use Rattle.translator.specs.declared.NoResult.TheVariants.{NoMatch, NotYet}
+use Rattle.translator.specs.declared.NotLaunched.TheVariants.{NothingPending, Occupied}
 use Rattle.translator.specs.CompleteSplit.{complete_split}
 use Rattle.translator.specs.Launch.{launch}
 use Rattle.translator.specs.Clear.{clear_buffer}
 use Rattle.translator.specs.ResetLane.{reset_lane}
 use Rattle.numbers.specs.Named.{lane_from, event_from, is_event, is_lane, port_named}
 use Rattle.numbers.specs.Split.{key_from}
+use Rattle.std.specs.Prelude.{Result, Ok, Err}
+use Rattle.request.specs.declared.Fault.{Fault}
 use Rattle.request.specs.declared.Request.{Request}
-use Rattle.request.specs.declared.Request.TheVariants.{Wrong, SetConfiguration, GetConfiguration, GetHubDescriptor, GetHubStatus, GetPortStatus, ClearHubFeature, ClearPortFeature, SetPortFeature, ClearTTBuffer, ResetTT}
+use Rattle.request.specs.declared.Request.TheVariants.{SetConfiguration, GetConfiguration, GetHubDescriptor, GetHubStatus, GetPortStatus, ClearHubFeature, ClearPortFeature, SetPortFeature, ClearTTBuffer, ResetTT}
 use Rattle.request.specs.Request.{request_of}
 use Rattle.hub.specs.declared.Hub.{Hub}
 use Rattle.hub.specs.Hub.{with_ports, with_translator, configuration_sweep, configured_as, reset_hub, ticked_hub}
@@ -84,25 +88,25 @@ module _ (p : PortNumber) where
     as_it_was : (a : Answer) → Both (record { next = g; answer = a }) (record { next = h; answer = a })
     as_it_was a = plainly h.translator a
 
-    request_same : (z : Lane) (r : Request) → request_naming p r ≡ false → Both (by_request g z r) (by_request h z r)
+    request_same : (z : Lane) (r : Result Request Fault) → request_naming p r ≡ false → Both (by_request g z r) (by_request h z r)
     unfolding configured_as
-    request_same z (Wrong f) n = as_it_was _
-    request_same z (SetConfiguration on) n =
+    request_same z (Err f) n = as_it_was _
+    request_same z (Ok (SetConfiguration on)) n =
         (ap (with_ports (configured_as on h)) (swept_same p qs h.ports e (configuration_sweep on) h.identity.ports), refl)
-    request_same z GetConfiguration n = as_it_was _
-    request_same z (GetHubDescriptor l) n = as_it_was _
-    request_same z GetHubStatus n = as_it_was _
-    request_same z (GetPortStatus m) n =
+    request_same z (Ok GetConfiguration) n = as_it_was _
+    request_same z (Ok (GetHubDescriptor l)) n = as_it_was _
+    request_same z (Ok GetHubStatus) n = as_it_was _
+    request_same z (Ok (GetPortStatus m)) n =
         ((as_it_was (plain_answer 0)).0, ap (λ (x : Port). pid_answer 1 0 (status_bytes x)) (others_same p qs h.ports e m (eqb-false m.0 p.0 n)))
-    request_same z ClearHubFeature n = as_it_was _
-    request_same z (ClearPortFeature m f) n =
+    request_same z (Ok ClearHubFeature) n = as_it_was _
+    request_same z (Ok (ClearPortFeature m f)) n =
         (ap (with_ports h) (set_same p qs h.ports e m (λ x. feature_cleared x f) (eqb-false m.0 p.0 n)), refl)
-    request_same z (SetPortFeature m f) n =
+    request_same z (Ok (SetPortFeature m f)) n =
         (ap (with_ports h) (set_same p qs h.ports e m (λ x. feature_set x f) (eqb-false m.0 p.0 n)), refl)
-    request_same z (ClearTTBuffer k) n = plainly (clear_buffer h.translator (keyed z k)) (plain_answer 0)
-    request_same z ResetTT n = plainly (reset_lane h.translator z) (plain_answer 0)
+    request_same z (Ok (ClearTTBuffer k)) n = plainly (clear_buffer h.translator (keyed z k)) (plain_answer 0)
+    request_same z (Ok ResetTT) n = plainly (reset_lane h.translator z) (plain_answer 0)
 
-    requested_same : (z : Lane) (r : Request) → request_naming p r ≡ false → Both (requested g z r) (requested h z r)
+    requested_same : (z : Lane) (r : Result Request Fault) → request_naming p r ≡ false → Both (requested g z r) (requested h z r)
     unfolding requested
     requested_same z r n = go (h.configured || served_always r)
       where
@@ -110,15 +114,15 @@ module _ (p : PortNumber) where
         go true = request_same z r n
         go false = as_it_was _
 
-    completed_same : (t : Translator) (a : CompleteAnswer) (l : Payload) → Both (completed_by (with_translator g t) a l) (completed_by (with_translator h t) a l)
-    completed_same t NoMatch l = plainly t _
-    completed_same t NotYet l = plainly t _
-    completed_same t (Gives r) l = plainly t _
+    completed_same : (t : Translator) (a : Result DeviceResult NoResult) (l : Payload) → Both (completed_by (with_translator g t) a l) (completed_by (with_translator h t) a l)
+    completed_same t (Err NoMatch) l = plainly t _
+    completed_same t (Err NotYet) l = plainly t _
+    completed_same t (Ok r) l = plainly t _
 
-    launched_same : (t : Translator) (a : LaunchAnswer) (l : Payload) → Both (launched_by (with_translator g t) a l) (launched_by (with_translator h t) a l)
-    launched_same t NothingPending l = plainly t _
-    launched_same t Occupied l = plainly t _
-    launched_same t (Launches s) l = plainly t _
+    launched_same : (t : Translator) (a : Result StartSplit NotLaunched) (l : Payload) → Both (launched_by (with_translator g t) a l) (launched_by (with_translator h t) a l)
+    launched_same t (Err NothingPending) l = plainly t _
+    launched_same t (Err Occupied) l = plainly t _
+    launched_same t (Ok s) l = plainly t _
 
     ticked_same : Both (done (ticked_hub g)) (done (ticked_hub h))
     unfolding ticked_hub
@@ -267,18 +271,18 @@ module _ (p : PortNumber) where
       ap (λ (i : ℕ). erased p (with_ports h (with_port h.ports (record { 0 = i }) x))) (eqb-true m.0 p.0 n)
       ∙ ap (with_ports h) (set_named p h.ports x)
 
-  named_request : (h : Hub) (z : Lane) (r : Request) → request_naming p r ≡ true → erased p (by_request h z r).next ≡ erased p h
-  named_request h z (Wrong f) n = absurd (true≢false (sym n))
-  named_request h z (SetConfiguration on) n = absurd (true≢false (sym n))
-  named_request h z GetConfiguration n = absurd (true≢false (sym n))
-  named_request h z (GetHubDescriptor l) n = absurd (true≢false (sym n))
-  named_request h z GetHubStatus n = absurd (true≢false (sym n))
-  named_request h z (GetPortStatus m) n = refl
-  named_request h z ClearHubFeature n = absurd (true≢false (sym n))
-  named_request h z (ClearPortFeature m f) n = at_named h m (feature_cleared (port_at h.ports m) f) n
-  named_request h z (SetPortFeature m f) n = at_named h m (feature_set (port_at h.ports m) f) n
-  named_request h z (ClearTTBuffer k) n = absurd (true≢false (sym n))
-  named_request h z ResetTT n = absurd (true≢false (sym n))
+  named_request : (h : Hub) (z : Lane) (r : Result Request Fault) → request_naming p r ≡ true → erased p (by_request h z r).next ≡ erased p h
+  named_request h z (Err f) n = absurd (true≢false (sym n))
+  named_request h z (Ok (SetConfiguration on)) n = absurd (true≢false (sym n))
+  named_request h z (Ok GetConfiguration) n = absurd (true≢false (sym n))
+  named_request h z (Ok (GetHubDescriptor l)) n = absurd (true≢false (sym n))
+  named_request h z (Ok GetHubStatus) n = absurd (true≢false (sym n))
+  named_request h z (Ok (GetPortStatus m)) n = refl
+  named_request h z (Ok ClearHubFeature) n = absurd (true≢false (sym n))
+  named_request h z (Ok (ClearPortFeature m f)) n = at_named h m (feature_cleared (port_at h.ports m) f) n
+  named_request h z (Ok (SetPortFeature m f)) n = at_named h m (feature_set (port_at h.ports m) f) n
+  named_request h z (Ok (ClearTTBuffer k)) n = absurd (true≢false (sym n))
+  named_request h z (Ok ResetTT) n = absurd (true≢false (sym n))
 
   pub step_named : (h : Hub) (c : Call) → naming h.identity.ports p c ≡ true → erased p (step h c).next ≡ erased p h
   unfolding served naming requested
@@ -286,7 +290,7 @@ module _ (p : PortNumber) where
       by_step h (Control z s room) (λ (o : Outcome). erased p o.next ≡ erased p h) (λ i. refl)
       (λ w f. go (h.configured || served_always (request_of h.identity.ports s)))
     where
-      r : Request
+      r : Result Request Fault
       r = request_of h.identity.ports s
 
       go : (b : Bool) → erased p (cond {A = Outcome} b (by_request h (lane_from z) r) (refuse 2 h)).next ≡ erased p h

@@ -3,24 +3,26 @@
 use Rattle.std.specs.Prelude.{ℕ, Bool, false, cond, ◌&&◌, List, [], ◌∷◌, eqb, length}
 use Rattle.port.specs.declared.PortNumber.{PortNumber}
 use Rattle.numbers.specs.Named.{port_named}
+use Rattle.std.specs.Prelude.{Result, Ok, Err}
+use Rattle.request.specs.declared.Fault.{Fault}
 use Rattle.request.specs.declared.Request.{Request}
-use Rattle.request.specs.declared.Request.TheVariants.{Wrong, SetConfiguration, GetConfiguration, GetHubDescriptor, GetHubStatus, GetPortStatus, ClearHubFeature, ClearPortFeature, SetPortFeature, ClearTTBuffer, ResetTT}
+use Rattle.request.specs.declared.Request.TheVariants.{SetConfiguration, GetConfiguration, GetHubDescriptor, GetHubStatus, GetPortStatus, ClearHubFeature, ClearPortFeature, SetPortFeature, ClearTTBuffer, ResetTT}
 use Rattle.request.specs.Request.{request_of}
 use Rattle.hub.specs.Call.{Call, Control, Poll, Start, Complete, Launch, Deliver, Event, Tick, BusReset}
 
 -- the port requests are GetPortStatus, ClearPortFeature and SetPortFeature
-abbrev pub request_naming : PortNumber → Request → Bool
-request_naming p (Wrong f) = false
-request_naming p (SetConfiguration on) = false
-request_naming p GetConfiguration = false
-request_naming p (GetHubDescriptor l) = false
-request_naming p GetHubStatus = false
-request_naming p (GetPortStatus m) = eqb m.0 p.0
-request_naming p ClearHubFeature = false
-request_naming p (ClearPortFeature m f) = eqb m.0 p.0
-request_naming p (SetPortFeature m f) = eqb m.0 p.0
-request_naming p (ClearTTBuffer k) = false
-request_naming p ResetTT = false
+abbrev pub request_naming : PortNumber → Result Request Fault → Bool
+request_naming p (Err f) = false
+request_naming p (Ok (SetConfiguration on)) = false
+request_naming p (Ok GetConfiguration) = false
+request_naming p (Ok (GetHubDescriptor l)) = false
+request_naming p (Ok GetHubStatus) = false
+request_naming p (Ok (GetPortStatus m)) = eqb m.0 p.0
+request_naming p (Ok ClearHubFeature) = false
+request_naming p (Ok (ClearPortFeature m f)) = eqb m.0 p.0
+request_naming p (Ok (SetPortFeature m f)) = eqb m.0 p.0
+request_naming p (Ok (ClearTTBuffer k)) = false
+request_naming p (Ok ResetTT) = false
 
 -- whether a call to a hub with n ports names port p
 unfoldable pub naming : ℕ → PortNumber → Call → Bool

@@ -37,14 +37,14 @@ ghost use Rattle.numbers.specs.Claims.{NumbersClaims};
 
 use buffer::{DeviceAddress, DeviceResult, Direction, Key, Lane, Pid, StartSplit, TransferType};
 use port::{LineEvent, PortCount};
-use translator::{Choice, CompleteAnswer, DeliverAnswer, LaunchAnswer, StartAnswer};
+use translator::{Choice, NoResult, NotDelivered, NotLaunched, Outside};
 
 // ---- what a number names
 
 pub fn is_lane(n: u32) -> bool
     ensures { result ≡ is_lane n }
 {
-    bools::either(n == 0, n == 1)
+    matches!(n, 0 | 1)
 }
 
 pub fn lane_of(n: u32) -> Lane
@@ -59,7 +59,7 @@ pub fn lane_of(n: u32) -> Lane
 pub fn is_pid(n: u32) -> bool
     ensures { result ≡ is_pid n }
 {
-    bools::either(n == 1, bools::either(n == 9, n == 13))
+    matches!(n, 1 | 9 | 13)
 }
 
 pub fn pid_of(n: u32) -> Pid
@@ -75,7 +75,7 @@ pub fn pid_of(n: u32) -> Pid
 pub fn is_type(n: u32) -> bool
     ensures { result ≡ is_type n }
 {
-    bools::either(n == 0, n == 2)
+    matches!(n, 0 | 2)
 }
 
 pub fn type_of(n: u32) -> TransferType
@@ -90,9 +90,7 @@ pub fn type_of(n: u32) -> TransferType
 pub fn is_result(n: u32) -> bool
     ensures { result ≡ is_result n }
 {
-    let handshake = bools::either(n == 2, bools::either(n == 10, n == 14));
-    let data = bools::either(n == 3, n == 11);
-    bools::either(n == 0, bools::either(handshake, data))
+    matches!(n, 0 | 2 | 10 | 14 | 3 | 11)
 }
 
 pub fn result_of(n: u32) -> DeviceResult
@@ -111,7 +109,7 @@ pub fn result_of(n: u32) -> DeviceResult
 pub fn is_direction(n: u32) -> bool
     ensures { result ≡ is_direction n }
 {
-    bools::either(n == 0, n == 1)
+    matches!(n, 0 | 1)
 }
 
 pub fn direction_of(n: u32) -> Direction
@@ -160,7 +158,7 @@ pub fn flag_of(n: u32) -> bool
 pub fn port_named(count: PortCount, n: u32) -> bool
     ensures { result ≡ port_named count.0 n }
 {
-    bools::both(1 <= n, n <= count.0 as u32)
+    1 <= n && n <= count.0 as u32
 }
 
 // ---- start-splits and keys
@@ -177,10 +175,13 @@ pub fn split_named(
 ) -> bool
     ensures { result ≡ split_named lane pid transfer lowspeed toggle address endpoint }
 {
-    let kind = bools::both(is_pid(pid), is_type(transfer));
-    let flags = bools::both(is_flag(lowspeed), is_flag(toggle));
-    let device = bools::both(address < 128, endpoint < 16);
-    bools::both(is_lane(lane), bools::both(kind, bools::both(flags, device)))
+    is_lane(lane)
+        && is_pid(pid)
+        && is_type(transfer)
+        && is_flag(lowspeed)
+        && is_flag(toggle)
+        && address < 128
+        && endpoint < 16
 }
 
 #[tactic(auto, unfolding(crate::specs::Split::split_from))]
@@ -210,13 +211,7 @@ pub fn split_of(
 pub fn key_named(lane: u32, address: u32, endpoint: u32, direction: u32) -> bool
     ensures { result ≡ key_named lane address endpoint direction }
 {
-    bools::both(
-        is_lane(lane),
-        bools::both(
-            bools::both(address < 128, endpoint < 16),
-            is_direction(direction),
-        ),
-    )
+    is_lane(lane) && address < 128 && endpoint < 16 && is_direction(direction)
 }
 
 #[tactic(auto, unfolding(crate::specs::Split::key_from))]
@@ -236,10 +231,7 @@ pub fn key_of(lane: u32, address: u32, endpoint: u32, direction: u32) -> Key
 pub fn lane_number(lane: Lane) -> u8
     ensures { result ≡ lane_number lane }
 {
-    match lane {
-        Lane::Zero => 0,
-        Lane::One => 1,
-    }
+    lane as u8
 }
 
 pub fn pid_number(pid: Pid) -> u8
@@ -264,10 +256,7 @@ pub fn type_number(transfer: TransferType) -> u8
 pub fn direction_number(direction: Direction) -> u8
     ensures { result ≡ direction_number direction }
 {
-    match direction {
-        Direction::Out => 0,
-        Direction::In => 1,
-    }
+    direction as u8
 }
 
 // A failure is 0.
@@ -287,17 +276,17 @@ pub fn result_number(res: DeviceResult) -> u8
 pub fn flag_number(flag: bool) -> u8
     ensures { result ≡ bit flag }
 {
-    if flag { 1 } else { 0 }
+    u8::from(flag)
 }
 
 // ---- the number of an answer
 
-pub fn start_answer(answer: StartAnswer) -> u8
+pub fn start_answer(answer: Result<Choice, Outside>) -> u8
     ensures { result ≡ start_number answer }
 {
     match answer {
-        StartAnswer::Outside => 6,
-        StartAnswer::Chosen(choice) => choice_answer(choice),
+        Err(Outside) => 6,
+        Ok(choice) => choice_answer(choice),
     }
 }
 
@@ -305,21 +294,18 @@ fn choice_answer(choice: Choice) -> u8
     ensures { result ≡ choice_number choice }
 {
     match choice {
-        Choice::NoRoom => 3,
-        Choice::LimitReached => 3,
-        Choice::Held(_) => 0,
-        Choice::Reused(_) => 0,
-        Choice::Took(_) => 0,
+        Choice::NoRoom | Choice::LimitReached => 3,
+        Choice::Held(_) | Choice::Reused(_) | Choice::Took(_) => 0,
     }
 }
 
-pub fn complete_answer(answer: CompleteAnswer) -> u8
+pub fn complete_answer(answer: Result<DeviceResult, NoResult>) -> u8
     ensures { result ≡ complete_number answer }
 {
     match answer {
-        CompleteAnswer::NoMatch => 2,
-        CompleteAnswer::NotYet => 4,
-        CompleteAnswer::Gives(result) => result_answer(result),
+        Err(NoResult::NoMatch) => 2,
+        Err(NoResult::NotYet) => 4,
+        Ok(result) => result_answer(result),
     }
 }
 
@@ -343,23 +329,23 @@ pub fn complete_pid(res: DeviceResult) -> u8
     }
 }
 
-pub fn launch_answer(answer: LaunchAnswer) -> u8
+pub fn launch_answer(answer: Result<StartSplit, NotLaunched>) -> u8
     ensures { result ≡ launch_number answer }
 {
     match answer {
-        LaunchAnswer::NothingPending => 3,
-        LaunchAnswer::Occupied => 8,
-        LaunchAnswer::Launches(_) => 1,
+        Err(NotLaunched::NothingPending) => 3,
+        Err(NotLaunched::Occupied) => 8,
+        Ok(_) => 1,
     }
 }
 
-pub fn deliver_answer(answer: DeliverAnswer) -> u8
+pub fn deliver_answer(answer: Result<(), NotDelivered>) -> u8
     ensures { result ≡ deliver_number answer }
 {
     match answer {
-        DeliverAnswer::Outside => 6,
-        DeliverAnswer::NotInThisState => 8,
-        DeliverAnswer::Done => 0,
+        Err(NotDelivered::Outside) => 6,
+        Err(NotDelivered::NotInThisState) => 8,
+        Ok(()) => 0,
     }
 }
 

@@ -1,4 +1,3 @@
-pub mod Arms
 pub mod States
 pub mod Timers
 pub mod Bits

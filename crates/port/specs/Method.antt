@@ -1,15 +1,10 @@
 -- Internal, pinned by the contracts of the C entries (crate `grimholdi`), which don't speak of it: what a step of a port gives back.
-use Rattle.std.specs.Prelude.{ℕ}
-use Rattle.port.specs.declared.StepAnswer.{StepAnswer}
-use Rattle.port.specs.declared.StepAnswer.TheVariants.{Done, NotInThisState}
-use Rattle.port.specs.declared.Stepped.{Stepped}
-use Rattle.port.specs.Reaction.{Answered}
+use Rattle.std.specs.Prelude.{Result, Ok, Err}
+use Rattle.port.specs.declared.Port.{Port}
+use Rattle.port.specs.declared.NotInThisState.{NotInThisState}
+use Rattle.port.specs.Reaction.{Answered, done_with}
 
--- the number of document 01 for each answer to a step: 0 done, 8 not in this state
-abbrev pub number_of : StepAnswer → ℕ
-number_of Done = 0
-number_of NotInThisState = 8
-
--- what a call gives back, with its number
-abbrev pub answered : Stepped → Answered
-answered r = record { port = r.port; number = number_of r.answer }
+-- what a step of a port gives, with the number of document 01: 0 done, 8 not in this state, and the port is as before
+abbrev pub answered : Port → Result Port NotInThisState → Answered
+answered p (Ok q) = done_with q
+answered p (Err e) = record { port = p; number = 8 }

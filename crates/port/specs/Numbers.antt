@@ -1,6 +1,6 @@
 -- A state in numbers, as an area is written (docs/AREA.md) and the chart of a port has them.
 -- Believe: each state has the number of its comment.
-use Rattle.std.specs.Prelude.{ℕ}
+use Rattle.std.specs.Prelude.{ℕ, Option, Some, None}
 use Rattle.port.specs.declared.Speed.{Speed}
 use Rattle.port.specs.declared.Speed.TheVariants.{Low, Full, High}
 use Rattle.port.specs.declared.PortState.{PortState}
@@ -22,6 +22,17 @@ abbrev pub speed_number : Speed → ℕ
 speed_number Low = 0
 speed_number Full = 1
 speed_number High = 2
+
+-- the speed in a connected state
+abbrev pub device_speed : PortState → Option Speed
+device_speed NotConfigured = None
+device_speed PoweredOff = None
+device_speed Disconnected = None
+device_speed (Disabled v) = Some v
+device_speed (Resetting v t) = Some v
+device_speed (Enabled v) = Some v
+device_speed (Suspended v) = Some v
+device_speed (Resuming v t) = Some v
 
 -- the speed, 0 in a state without one
 abbrev pub state_speed : PortState → ℕ

@@ -2,8 +2,8 @@
 #![tactic(auto)]
 
 ghost use Rattle.std.specs.Prelude.{◌≡◌, false, [], ◌∷◌, ◌≤◌};
-ghost use Rattle.port.specs.Method.{number_of, answered};
-ghost use Rattle.port.specs.Reaction.{new_port, done_with, ruled};
+ghost use Rattle.port.specs.Method.{answered};
+ghost use Rattle.port.specs.Reaction.{new_port, ruled};
 ghost use Rattle.port.specs.Events.{
   attach,
   detach,
@@ -29,11 +29,9 @@ ghost use Rattle.port.specs.Features.{
 };
 ghost use Rattle.port.specs.Configuration.{configured, unconfigured};
 ghost use Rattle.port.specs.Input.{stepped_by};
-ghost use Rattle.port.specs.Numbers.{state_number, speed_number, state_speed, ticks_so_far};
+ghost use Rattle.port.specs.Numbers.{state_number, speed_number, device_speed, state_speed, ticks_so_far};
 ghost use Rattle.port.specs.FromNumbers.{speed_of, state_of};
 ghost use Rattle.port.specs.Status.{
-  is_low,
-  is_high,
   port_connection,
   port_enable,
   port_suspend,
@@ -49,15 +47,17 @@ ghost use Rattle.port.specs.Status.{
 ghost use Rattle.port.specs.Claims.{PortClaims};
 ghost use Rattle.port.specs.Mistakes.{EnableMistakesShutOut};
 
+mod words;
+
 // A port's number, counted from 1.
-#[derive(Clone, Copy)]
+#[derive(Clone, Copy, PartialEq, Eq)]
 pub struct PortNumber(pub u32);
 
 // How many ports a hub has.
-#[derive(Clone, Copy)]
+#[derive(Clone, Copy, PartialEq, Eq)]
 pub struct PortCount(pub u8);
 
-#[derive(Clone, Copy)]
+#[derive(Clone, Copy, PartialEq, Eq)]
 pub enum Speed {
     Low,
     Full,
@@ -65,7 +65,7 @@ pub enum Speed {
 }
 
 // A connected state has the speed; Resetting and Resuming have the ticks so far.
-#[derive(Clone, Copy)]
+#[derive(Clone, Copy, PartialEq, Eq)]
 pub enum PortState {
     NotConfigured,
     PoweredOff,
@@ -77,7 +77,7 @@ pub enum PortState {
     Resuming(Speed, u8),
 }
 
-#[derive(Clone, Copy)]
+#[derive(Clone, Copy, PartialEq, Eq)]
 pub enum ChangeBit {
     Connection,
     Enable,
@@ -87,7 +87,7 @@ pub enum ChangeBit {
 }
 
 // C_PORT_CONNECTION, C_PORT_ENABLE, C_PORT_SUSPEND, C_PORT_OVER_CURRENT and C_PORT_RESET.
-#[derive(Clone, Copy)]
+#[derive(Clone, Copy, Default, PartialEq, Eq)]
 pub struct Changes {
     pub connection: bool,
     pub enable: bool,
@@ -97,14 +97,14 @@ pub struct Changes {
 }
 
 // overcurrent is the over-current level.
-#[derive(Clone, Copy)]
+#[derive(Clone, Copy, PartialEq, Eq)]
 pub struct Port {
     pub state: PortState,
     pub overcurrent: bool,
     pub changes: Changes,
 }
 
-#[derive(Clone, Copy)]
+#[derive(Clone, Copy, PartialEq, Eq)]
 pub enum LineEvent {
     AttachLow,
     AttachFull,
@@ -116,14 +116,14 @@ pub enum LineEvent {
     OverCurrentOff,
 }
 
-#[derive(Clone, Copy)]
+#[derive(Clone, Copy, PartialEq, Eq)]
 pub enum SettableFeature {
     Suspend,
     Reset,
     Power,
 }
 
-#[derive(Clone, Copy)]
+#[derive(Clone, Copy, PartialEq, Eq)]
 pub enum ClearableFeature {
     Enable,
     Suspend,
@@ -132,7 +132,7 @@ pub enum ClearableFeature {
 }
 
 // All that acts on a port: line events, the 1 ms tick, SetPortFeature and ClearPortFeature, SetConfiguration 1 and 0, bus reset.
-#[derive(Clone, Copy)]
+#[derive(Clone, Copy, PartialEq, Eq)]
 pub enum Input {
     Event(LineEvent),
     Tick,
@@ -143,56 +143,39 @@ pub enum Input {
     BusReset,
 }
 
-// What a step of a port answers; only a line event can be refused.
-#[derive(Clone, Copy)]
-pub enum StepAnswer {
-    Done,
-    NotInThisState,
-}
-
-// The next port with the answer.
-#[derive(Clone, Copy)]
-pub struct Stepped {
-    pub port: Port,
-    pub answer: StepAnswer,
-}
+// A line event in a state where it isn't named: nothing changes. No other step can fail.
+#[derive(Clone, Copy, PartialEq, Eq)]
+pub struct NotInThisState;
 
 impl Port {
     // The port of a new hub.
     pub fn new() -> Port
         ensures { result ≡ new_port }
     {
-        let changes = Changes {
-            connection: false,
-            enable: false,
-            suspend: false,
-            overcurrent: false,
-            reset: false,
-        };
         Port {
             state: PortState::NotConfigured,
             overcurrent: false,
-            changes,
+            changes: Changes::default(),
         }
     }
 
     // Any input, by the method that it has.
-    pub fn step(self, input: Input) -> Stepped
-        ensures { answered result ≡ stepped_by self input }
+    pub fn step(self, input: Input) -> Result<Port, NotInThisState>
+        ensures { answered self result ≡ stepped_by self input }
     {
-        match input {
-            Input::Event(event) => self.line_event(event),
+        Ok(match input {
+            Input::Event(event) => self.line_event(event)?,
             Input::Tick => self.tick(),
             Input::SetFeature(feature) => self.set_feature(feature),
             Input::ClearFeature(feature) => self.clear_feature(feature),
             Input::Configure => self.configure(),
             Input::Unconfigure => self.unconfigure(),
-            Input::BusReset => done_with(Port::new()),
-        }
+            Input::BusReset => Port::new(),
+        })
     }
 
-    pub fn line_event(self, event: LineEvent) -> Stepped
-        ensures { answered result ≡ line_event self event }
+    pub fn line_event(self, event: LineEvent) -> Result<Port, NotInThisState>
+        ensures { answered self result ≡ line_event self event }
     {
         match event {
             LineEvent::AttachLow => self.attach(Speed::Low),
@@ -207,71 +190,70 @@ impl Port {
     }
 
     // One millisecond.
-    pub fn tick(self) -> Stepped
-        ensures { answered result ≡ done_with (ticked self) }
+    pub fn tick(self) -> Port
+        ensures { result ≡ ticked self }
     {
-        let state = self.state;
-        let mut changes = self.changes;
-        match state {
-            PortState::Resetting(speed, ticks) => if ticks < 14 {
-                done(
-                    PortState::Resetting(speed, ticks + 1),
-                    self.overcurrent,
-                    changes,
-                )
-            } else {
-                changes.reset = true;
-                done(PortState::Enabled(speed), self.overcurrent, changes)
-            },
-            PortState::Resuming(speed, ticks) => if ticks < 21 {
-                done(
-                    PortState::Resuming(speed, ticks + 1),
-                    self.overcurrent,
-                    changes,
-                )
-            } else {
-                changes.suspend = true;
-                done(PortState::Enabled(speed), self.overcurrent, changes)
-            },
-            _ => done_with(self),
+        let mut next = self;
+        match self.state {
+            PortState::Resetting(speed, ticks) if ticks < 14 => {
+                next.state = PortState::Resetting(speed, ticks + 1);
+            }
+            PortState::Resetting(speed, _) => {
+                next.state = PortState::Enabled(speed);
+                next.changes.reset = true;
+            }
+            PortState::Resuming(speed, ticks) if ticks < 21 => {
+                next.state = PortState::Resuming(speed, ticks + 1);
+            }
+            PortState::Resuming(speed, _) => {
+                next.state = PortState::Enabled(speed);
+                next.changes.suspend = true;
+            }
+            _ => {}
+        }
+        next
+    }
+
+    pub fn set_feature(self, feature: SettableFeature) -> Port
+        ensures { result ≡ feature_set self feature }
+    {
+        match feature {
+            SettableFeature::Suspend => self.set_suspend(),
+            SettableFeature::Reset => self.set_reset(),
+            SettableFeature::Power => self.set_power(),
         }
     }
 
-    pub fn set_feature(self, feature: SettableFeature) -> Stepped
-        ensures { answered result ≡ done_with (feature_set self feature) }
+    pub fn clear_feature(self, feature: ClearableFeature) -> Port
+        ensures { result ≡ feature_cleared self feature }
     {
         match feature {
-            SettableFeature::Suspend => done_with(self.set_suspend()),
-            SettableFeature::Reset => done_with(self.set_reset()),
-            SettableFeature::Power => done_with(self.set_power()),
-        }
-    }
-
-    pub fn clear_feature(self, feature: ClearableFeature) -> Stepped
-        ensures { answered result ≡ done_with (feature_cleared self feature) }
-    {
-        match feature {
-            ClearableFeature::Enable => done_with(self.clear_enable()),
-            ClearableFeature::Suspend => done_with(self.clear_suspend()),
-            ClearableFeature::Power => done_with(self.clear_power()),
-            ClearableFeature::Change(bit) => done_with(self.clear_change(bit)),
+            ClearableFeature::Enable => self.clear_enable(),
+            ClearableFeature::Suspend => self.clear_suspend(),
+            ClearableFeature::Power => self.clear_power(),
+            ClearableFeature::Change(bit) => self.clear_change(bit),
         }
     }
 
     // SetConfiguration 1.
-    pub fn configure(self) -> Stepped
-        ensures { answered result ≡ done_with (configured self) }
+    pub fn configure(self) -> Port
+        ensures { result ≡ configured self }
     {
-        let changes = self.changes;
-        done(PortState::PoweredOff, self.overcurrent, changes)
+        Port {
+            state: PortState::PoweredOff,
+            ..self
+        }
     }
 
     // SetConfiguration 0.
-    pub fn unconfigure(self) -> Stepped
-        ensures { answered result ≡ done_with (unconfigured self) }
+    pub fn unconfigure(self) -> Port
+        ensures { result ≡ unconfigured self }
     {
-        let changes = self.changes;
-        done(PortState::NotConfigured, false, changes)
+        Port {
+            state: PortState::NotConfigured,
+            overcurrent: false,
+            ..self
+        }
     }
 
     // The four bytes of GetPortStatus.
@@ -279,7 +261,6 @@ impl Port {
         ensures { result ≡ status_bytes self }
     {
         let state = self.state;
-        let changes = self.changes;
         let low = byte_of(
             state.connection(),
             state.enable(),
@@ -294,173 +275,115 @@ impl Port {
             false,
             false,
         );
-        [low, high, changes.byte(), 0]
+        [low, high, self.changes.byte(), 0]
     }
 
     // Whether a change bit is set.
     pub fn changed(self) -> bool
         ensures { result ≡ has_change self.changes }
     {
-        if self.changes.connection {
-            return true;
-        }
-        if self.changes.enable {
-            return true;
-        }
-        if self.changes.suspend {
-            return true;
-        }
-        if self.changes.overcurrent {
-            return true;
-        }
-        self.changes.reset
+        self.changes.connection
+            || self.changes.enable
+            || self.changes.suspend
+            || self.changes.overcurrent
+            || self.changes.reset
     }
 }
 
 // The line events.
 impl Port {
-    fn attach(self, speed: Speed) -> Stepped
-        ensures { answered result ≡ ruled (attach speed) self }
+    fn attach(self, speed: Speed) -> Result<Port, NotInThisState>
+        ensures { answered self result ≡ ruled (attach speed) self }
     {
-        let state = self.state;
-        let mut changes = self.changes;
-        match state {
-            PortState::Disconnected => {
-                changes.connection = true;
-                done(PortState::Disabled(speed), self.overcurrent, changes)
-            }
-            _ => refused(self),
+        if self.state != PortState::Disconnected {
+            return Err(NotInThisState);
         }
+        let mut next = self;
+        next.state = PortState::Disabled(speed);
+        next.changes.connection = true;
+        Ok(next)
     }
 
-    fn detach(self) -> Stepped
-        ensures { answered result ≡ ruled detach self }
+    fn detach(self) -> Result<Port, NotInThisState>
+        ensures { answered self result ≡ ruled detach self }
     {
-        let state = self.state;
-        let mut changes = self.changes;
-        match state {
+        match self.state {
             PortState::Disabled(_) | PortState::Enabled(_) | PortState::Suspended(_) => {
-                changes.connection = true;
-                done(PortState::Disconnected, self.overcurrent, changes)
+                let mut next = self;
+                next.state = PortState::Disconnected;
+                next.changes.connection = true;
+                Ok(next)
             }
-            _ => refused(self),
+            _ => Err(NotInThisState),
         }
     }
 
-    fn chirp(self) -> Stepped
-        ensures { answered result ≡ ruled chirp self }
+    fn chirp(self) -> Result<Port, NotInThisState>
+        ensures { answered self result ≡ ruled chirp self }
     {
-        let state = self.state;
-        let changes = self.changes;
-        match state {
-            PortState::Resetting(speed, ticks) => match speed {
-                Speed::Full => done(
-                    PortState::Resetting(Speed::High, ticks),
-                    self.overcurrent,
-                    changes,
-                ),
-                Speed::Low => refused(self),
-                Speed::High => refused(self),
-            },
-            _ => refused(self),
+        match self.state {
+            PortState::Resetting(Speed::Full, ticks) => Ok(Port {
+                state: PortState::Resetting(Speed::High, ticks),
+                ..self
+            }),
+            _ => Err(NotInThisState),
         }
     }
 
-    fn wake(self) -> Stepped
-        ensures { answered result ≡ ruled wake self }
+    fn wake(self) -> Result<Port, NotInThisState>
+        ensures { answered self result ≡ ruled wake self }
     {
-        let state = self.state;
-        let changes = self.changes;
-        match state {
-            PortState::Suspended(speed) => done(
-                PortState::Resuming(speed, 0),
-                self.overcurrent,
-                changes,
-            ),
-            _ => refused(self),
+        match self.state {
+            PortState::Suspended(speed) => Ok(Port {
+                state: PortState::Resuming(speed, 0),
+                ..self
+            }),
+            _ => Err(NotInThisState),
         }
     }
 
     // The only event that sets C_PORT_ENABLE (USB 2.0, 11.24.2.7.2.2).
-    fn port_error(self) -> Stepped
-        ensures { answered result ≡ ruled port_error self }
+    fn port_error(self) -> Result<Port, NotInThisState>
+        ensures { answered self result ≡ ruled port_error self }
     {
-        let state = self.state;
-        let mut changes = self.changes;
-        match state {
+        match self.state {
             PortState::Enabled(speed) => {
-                changes.enable = true;
-                done(PortState::Disabled(speed), self.overcurrent, changes)
+                let mut next = self;
+                next.state = PortState::Disabled(speed);
+                next.changes.enable = true;
+                Ok(next)
             }
-            _ => refused(self),
+            _ => Err(NotInThisState),
         }
     }
 
-    fn over_current_on(self) -> Stepped
-        ensures { answered result ≡ ruled over_current_on self }
+    fn over_current_on(self) -> Result<Port, NotInThisState>
+        ensures { answered self result ≡ ruled over_current_on self }
     {
-        let state = self.state;
-        let mut changes = self.changes;
-        match state {
-            PortState::NotConfigured => refused(self),
-            _ => {
-                if self.overcurrent {
-                    done(state, self.overcurrent, changes)
-                } else {
-                    changes.overcurrent = true;
-                    done(PortState::PoweredOff, true, changes)
-                }
-            }
+        if self.state == PortState::NotConfigured {
+            return Err(NotInThisState);
         }
+        let mut next = self;
+        if !self.overcurrent {
+            next.state = PortState::PoweredOff;
+            next.overcurrent = true;
+            next.changes.overcurrent = true;
+        }
+        Ok(next)
     }
 
-    fn over_current_off(self) -> Stepped
-        ensures { answered result ≡ ruled over_current_off self }
+    fn over_current_off(self) -> Result<Port, NotInThisState>
+        ensures { answered self result ≡ ruled over_current_off self }
     {
-        let state = self.state;
-        let mut changes = self.changes;
-        match state {
-            PortState::NotConfigured => refused(self),
-            _ => {
-                if self.overcurrent {
-                    changes.overcurrent = true;
-                    done(state, false, changes)
-                } else {
-                    done(state, self.overcurrent, changes)
-                }
-            }
+        if self.state == PortState::NotConfigured {
+            return Err(NotInThisState);
         }
-    }
-}
-
-// Answer 0: the next state, over-current level and change bits.
-fn done(state: PortState, level: bool, changes: Changes) -> Stepped
-    ensures { answered result ≡ done_with (record { state = state; overcurrent = level; changes = changes }) }
-{
-    done_with(Port {
-        state,
-        overcurrent: level,
-        changes,
-    })
-}
-
-// Answer 0: the next port.
-fn done_with(port: Port) -> Stepped
-    ensures { answered result ≡ done_with port }
-{
-    Stepped {
-        port,
-        answer: StepAnswer::Done,
-    }
-}
-
-// Answer 8: nothing changed.
-fn refused(port: Port) -> Stepped
-    ensures { answered result ≡ record { port = port; number = 8 } }
-{
-    Stepped {
-        port,
-        answer: StepAnswer::NotInThisState,
+        let mut next = self;
+        if self.overcurrent {
+            next.overcurrent = false;
+            next.changes.overcurrent = true;
+        }
+        Ok(next)
     }
 }
 
@@ -469,20 +392,11 @@ impl Port {
     fn set_power(self) -> Port
         ensures { result ≡ (ruled set_power self).port }
     {
-        let state = self.state;
-        let changes = self.changes;
-        match state {
-            PortState::PoweredOff => {
-                if self.overcurrent {
-                    self
-                } else {
-                    Port {
-                        state: PortState::Disconnected,
-                        overcurrent: self.overcurrent,
-                        changes,
-                    }
-                }
-            }
+        match self.state {
+            PortState::PoweredOff if !self.overcurrent => Port {
+                state: PortState::Disconnected,
+                ..self
+            },
             _ => self,
         }
     }
@@ -490,25 +404,16 @@ impl Port {
     fn set_reset(self) -> Port
         ensures { result ≡ (ruled set_reset self).port }
     {
-        let state = self.state;
-        let changes = self.changes;
-        match state {
+        match self.state {
             PortState::Disabled(speed)
             | PortState::Enabled(speed)
             | PortState::Suspended(speed)
-            | PortState::Resuming(speed, _) => {
-                let slower = speed.after_reset();
-                Port {
-                    state: PortState::Resetting(slower, 0),
-                    overcurrent: self.overcurrent,
-                    changes,
-                }
-            }
-            PortState::Resetting(speed, ticks) => Port {
-                state: PortState::Resetting(speed, ticks),
-                overcurrent: self.overcurrent,
-                changes,
+            | PortState::Resuming(speed, _) => Port {
+                state: PortState::Resetting(speed.after_reset(), 0),
+                ..self
             },
+            // The timer runs on.
+            PortState::Resetting(_, _) => self,
             _ => self,
         }
     }
@@ -516,13 +421,10 @@ impl Port {
     fn set_suspend(self) -> Port
         ensures { result ≡ (ruled set_suspend self).port }
     {
-        let state = self.state;
-        let changes = self.changes;
-        match state {
+        match self.state {
             PortState::Enabled(speed) => Port {
                 state: PortState::Suspended(speed),
-                overcurrent: self.overcurrent,
-                changes,
+                ..self
             },
             _ => self,
         }
@@ -531,16 +433,13 @@ impl Port {
     fn clear_enable(self) -> Port
         ensures { result ≡ (ruled clear_enable self).port }
     {
-        let state = self.state;
-        let changes = self.changes;
-        match state {
+        match self.state {
             PortState::Resetting(speed, _)
             | PortState::Enabled(speed)
             | PortState::Suspended(speed)
             | PortState::Resuming(speed, _) => Port {
                 state: PortState::Disabled(speed),
-                overcurrent: self.overcurrent,
-                changes,
+                ..self
             },
             _ => self,
         }
@@ -549,13 +448,10 @@ impl Port {
     fn clear_suspend(self) -> Port
         ensures { result ≡ (ruled clear_suspend self).port }
     {
-        let state = self.state;
-        let changes = self.changes;
-        match state {
+        match self.state {
             PortState::Suspended(speed) => Port {
                 state: PortState::Resuming(speed, 0),
-                overcurrent: self.overcurrent,
-                changes,
+                ..self
             },
             _ => self,
         }
@@ -564,11 +460,9 @@ impl Port {
     fn clear_power(self) -> Port
         ensures { result ≡ (ruled clear_power self).port }
     {
-        let kept = self.changes;
         Port {
             state: PortState::PoweredOff,
-            overcurrent: self.overcurrent,
-            changes: kept,
+            ..self
         }
     }
 
@@ -576,27 +470,13 @@ impl Port {
         ensures { result ≡ change_cleared self bit }
     {
         match bit {
-            ChangeBit::Connection => {
-                self.changes.connection = false;
-                self
-            }
-            ChangeBit::Enable => {
-                self.changes.enable = false;
-                self
-            }
-            ChangeBit::Suspend => {
-                self.changes.suspend = false;
-                self
-            }
-            ChangeBit::OverCurrent => {
-                self.changes.overcurrent = false;
-                self
-            }
-            ChangeBit::Reset => {
-                self.changes.reset = false;
-                self
-            }
+            ChangeBit::Connection => self.changes.connection = false,
+            ChangeBit::Enable => self.changes.enable = false,
+            ChangeBit::Suspend => self.changes.suspend = false,
+            ChangeBit::OverCurrent => self.changes.overcurrent = false,
+            ChangeBit::Reset => self.changes.reset = false,
         }
+        self
     }
 }
 
@@ -620,30 +500,15 @@ impl PortState {
     pub fn speed(self) -> u8
         ensures { result ≡ state_speed self }
     {
-        match self {
-            PortState::NotConfigured => 0,
-            PortState::PoweredOff => 0,
-            PortState::Disconnected => 0,
-            PortState::Disabled(speed) => speed.number(),
-            PortState::Resetting(speed, _) => speed.number(),
-            PortState::Enabled(speed) => speed.number(),
-            PortState::Suspended(speed) => speed.number(),
-            PortState::Resuming(speed, _) => speed.number(),
-        }
+        self.device_speed().map_or(0, Speed::number)
     }
 
     pub fn ticks(self) -> u8
         ensures { result ≡ ticks_so_far self }
     {
         match self {
-            PortState::NotConfigured => 0,
-            PortState::PoweredOff => 0,
-            PortState::Disconnected => 0,
-            PortState::Disabled(_) => 0,
-            PortState::Resetting(_, ticks) => ticks,
-            PortState::Enabled(_) => 0,
-            PortState::Suspended(_) => 0,
-            PortState::Resuming(_, ticks) => ticks,
+            PortState::Resetting(_, ticks) | PortState::Resuming(_, ticks) => ticks,
+            _ => 0,
         }
     }
 }
@@ -675,28 +540,12 @@ pub fn speed_of(n: u8) -> Speed
     }
 }
 
-impl StepAnswer {
-    // The number of document 01.
-    pub fn number(self) -> u8
-        ensures { result ≡ number_of self }
-    {
-        match self {
-            StepAnswer::Done => 0,
-            StepAnswer::NotInThisState => 8,
-        }
-    }
-}
-
 impl Speed {
     pub fn number(self) -> u8
         ensures value { result ≡ speed_number self }
         ensures small { result ≤ 2 }
     {
-        match self {
-            Speed::Low => 0,
-            Speed::Full => 1,
-            Speed::High => 2,
-        }
+        self as u8
     }
 
     // Set PORT_RESET makes a high-speed port full speed.
@@ -705,28 +554,7 @@ impl Speed {
     {
         match self {
             Speed::Low => Speed::Low,
-            Speed::Full => Speed::Full,
-            Speed::High => Speed::Full,
-        }
-    }
-
-    fn is_low(self) -> bool
-        ensures { result ≡ is_low self }
-    {
-        match self {
-            Speed::Low => true,
-            Speed::Full => false,
-            Speed::High => false,
-        }
-    }
-
-    fn is_high(self) -> bool
-        ensures { result ≡ is_high self }
-    {
-        match self {
-            Speed::Low => false,
-            Speed::Full => false,
-            Speed::High => true,
+            Speed::Full | Speed::High => Speed::Full,
         }
     }
 }
@@ -736,105 +564,62 @@ impl PortState {
     fn connection(self) -> bool
         ensures { result ≡ port_connection self }
     {
-        match self {
-            PortState::NotConfigured => false,
-            PortState::PoweredOff => false,
-            PortState::Disconnected => false,
-            PortState::Disabled(_) => true,
-            PortState::Resetting(_, _) => true,
-            PortState::Enabled(_) => true,
-            PortState::Suspended(_) => true,
-            PortState::Resuming(_, _) => true,
-        }
+        !matches!(
+            self,
+            PortState::NotConfigured | PortState::PoweredOff | PortState::Disconnected
+        )
     }
 
     fn enable(self) -> bool
         ensures { result ≡ port_enable self }
     {
-        match self {
-            PortState::NotConfigured => false,
-            PortState::PoweredOff => false,
-            PortState::Disconnected => false,
-            PortState::Disabled(_) => false,
-            PortState::Resetting(_, _) => false,
-            PortState::Enabled(_) => true,
-            PortState::Suspended(_) => true,
-            PortState::Resuming(_, _) => true,
-        }
+        matches!(
+            self,
+            PortState::Enabled(_) | PortState::Suspended(_) | PortState::Resuming(_, _)
+        )
     }
 
     fn suspend(self) -> bool
         ensures { result ≡ port_suspend self }
     {
-        match self {
-            PortState::NotConfigured => false,
-            PortState::PoweredOff => false,
-            PortState::Disconnected => false,
-            PortState::Disabled(_) => false,
-            PortState::Resetting(_, _) => false,
-            PortState::Enabled(_) => false,
-            PortState::Suspended(_) => true,
-            PortState::Resuming(_, _) => true,
-        }
+        matches!(self, PortState::Suspended(_) | PortState::Resuming(_, _))
     }
 
     fn reset(self) -> bool
         ensures { result ≡ port_reset self }
     {
-        match self {
-            PortState::NotConfigured => false,
-            PortState::PoweredOff => false,
-            PortState::Disconnected => false,
-            PortState::Disabled(_) => false,
-            PortState::Resetting(_, _) => true,
-            PortState::Enabled(_) => false,
-            PortState::Suspended(_) => false,
-            PortState::Resuming(_, _) => false,
-        }
+        matches!(self, PortState::Resetting(_, _))
     }
 
     fn power(self) -> bool
         ensures { result ≡ port_power self }
     {
-        match self {
-            PortState::NotConfigured => false,
-            PortState::PoweredOff => false,
-            PortState::Disconnected => true,
-            PortState::Disabled(_) => true,
-            PortState::Resetting(_, _) => true,
-            PortState::Enabled(_) => true,
-            PortState::Suspended(_) => true,
-            PortState::Resuming(_, _) => true,
-        }
+        !matches!(self, PortState::NotConfigured | PortState::PoweredOff)
     }
 
     fn low_speed(self) -> bool
         ensures { result ≡ port_low_speed self }
     {
-        match self {
-            PortState::NotConfigured => false,
-            PortState::PoweredOff => false,
-            PortState::Disconnected => false,
-            PortState::Disabled(speed) => speed.is_low(),
-            PortState::Resetting(speed, _) => speed.is_low(),
-            PortState::Enabled(speed) => speed.is_low(),
-            PortState::Suspended(speed) => speed.is_low(),
-            PortState::Resuming(speed, _) => speed.is_low(),
-        }
+        self.device_speed() == Some(Speed::Low)
     }
 
     fn high_speed(self) -> bool
         ensures { result ≡ port_high_speed self }
     {
+        self.device_speed() == Some(Speed::High)
+    }
+
+    // The speed in a connected state.
+    pub fn device_speed(self) -> Option<Speed>
+        ensures { result ≡ device_speed self }
+    {
         match self {
-            PortState::NotConfigured => false,
-            PortState::PoweredOff => false,
-            PortState::Disconnected => false,
-            PortState::Disabled(speed) => speed.is_high(),
-            PortState::Resetting(speed, _) => speed.is_high(),
-            PortState::Enabled(speed) => speed.is_high(),
-            PortState::Suspended(speed) => speed.is_high(),
-            PortState::Resuming(speed, _) => speed.is_high(),
+            PortState::Disabled(speed)
+            | PortState::Resetting(speed, _)
+            | PortState::Enabled(speed)
+            | PortState::Suspended(speed)
+            | PortState::Resuming(speed, _) => Some(speed),
+            _ => None,
         }
     }
 }

@@ -8,100 +8,68 @@ ghost use Rattle.std.specs.Prelude.{◌≤◌, IfOk};
 use chart::PortAnswer;
 use port::{Input, Port};
 use std::io::{self, Read};
+use std::ops::Range;
 
-#[derive(Clone, Copy)]
-enum Engine {
-    Neither,
-    Rules,
-    Chart,
-}
-
-// The columns from the first on, and not the end.
-#[derive(Clone, Copy)]
-struct Round {
-    engine: Engine,
-    first: usize,
-    end: usize,
-}
-
-fn over(engine: Engine, first: usize, end: usize) -> Round {
-    Round { engine, first, end }
-}
-
-fn round_of(letter: u8) -> Round {
+fn columns_of(letter: u8) -> Range<usize> {
     match letter {
-        b'a' => over(Engine::Chart, 0, 23),
-        b'e' => over(Engine::Chart, 0, 8),
-        b't' => over(Engine::Chart, 8, 9),
-        b'f' => over(Engine::Chart, 9, 15),
-        b'b' => over(Engine::Chart, 15, 20),
-        b'c' => over(Engine::Chart, 20, 23),
-        b'A' => over(Engine::Rules, 0, 23),
-        b'E' => over(Engine::Rules, 0, 8),
-        b'T' => over(Engine::Rules, 8, 9),
-        b'F' => over(Engine::Rules, 9, 15),
-        b'B' => over(Engine::Rules, 15, 20),
-        b'C' => over(Engine::Rules, 20, 23),
-        b'0' => over(Engine::Neither, 0, 23),
-        b'1' => over(Engine::Neither, 0, 8),
-        b'2' => over(Engine::Neither, 8, 9),
-        b'3' => over(Engine::Neither, 9, 15),
-        b'4' => over(Engine::Neither, 15, 20),
-        b'5' => over(Engine::Neither, 20, 23),
-        _ => over(Engine::Neither, 0, 0),
-    }
-}
-
-fn stepped(engine: Engine, chart: &[u32; 1104], port: Port, input: Input) -> PortAnswer {
-    match engine {
-        Engine::Neither => PortAnswer { port, number: 0 },
-        Engine::Rules => chart::by_rules(port, input),
-        Engine::Chart => chart::look_up(chart, port, input),
+        b'a' | b'A' | b'0' => 0..23,
+        b'e' | b'E' | b'1' => 0..8,
+        b't' | b'T' | b'2' => 8..9,
+        b'f' | b'F' | b'3' => 9..15,
+        b'b' | b'B' | b'4' => 15..20,
+        b'c' | b'C' | b'5' => 20..23,
+        _ => 0..0,
     }
 }
 
 // All that an engine gives back, as one number.
 fn weight(given: PortAnswer) -> u64 {
     let port = given.port;
-    let state = port.state;
-    let changes = port.changes;
     given.number as u64
-        + state.number() as u64
-        + state.speed() as u64
-        + state.ticks() as u64
-        + bools::bit_of(port.overcurrent) as u64
-        + changes.byte() as u64
+        + port.state.number() as u64
+        + port.state.speed() as u64
+        + port.state.ticks() as u64
+        + port.overcurrent as u64
+        + port.changes.byte() as u64
 }
 
-fn of_line(round: Round, chart: &[u32; 1104], line: usize) -> u64 {
-    let engine = round.engine;
-    let end = round.end;
+fn of_line<E: Fn(Port, Input) -> PortAnswer>(line: usize, columns: Range<usize>, engine: &E) -> u64
+    requires { E.IsAlwaysCallable engine.now }
+{
     let mut sum: u64 = 0;
-    let mut column = round.first;
-    while column < end {
-        let given = stepped(engine, chart, chart::port_at(line), chart::input_at(column));
+    for column in columns {
+        let given = engine(chart::port_at(line), chart::input_at(column));
         sum = sum.wrapping_add(weight(given));
-        column += 1;
     }
     sum
 }
 
-fn of_round(round: Round, chart: &[u32; 1104]) -> u64 {
+fn of_round<E: Fn(Port, Input) -> PortAnswer>(columns: Range<usize>, engine: &E) -> u64
+    requires { E.IsAlwaysCallable engine.now }
+{
     let mut sum: u64 = 0;
-    let mut line: usize = 0;
-    while line < 48 {
-        sum = sum.wrapping_add(of_line(round, chart, line));
-        line += 1;
+    for line in 0..48 {
+        sum = sum.wrapping_add(of_line(line, columns.start..columns.end, engine));
     }
     sum
+}
+
+// The engine is chosen at each step, so that all rounds are one loop, which costs the same around each engine.
+fn of_letter(letter: u8, chart: &[u32; 1104]) -> u64 {
+    of_round(
+        columns_of(letter),
+        &|port, input| match letter {
+            b'a'..=b'z' => chart::look_up(chart, port, input),
+            b'A'..=b'Z' => chart::by_rules(port, input),
+            _ => PortAnswer { port, number: 0 },
+        },
+    )
 }
 
 fn of_letters(letters: &[u8], chart: &[u32; 1104]) -> u64 {
     let mut sum: u64 = 0;
-    let mut n: usize = 0;
-    while n < letters.len() {
-        sum = sum.wrapping_add(of_round(round_of(letters[n]), chart));
-        n += 1;
+    for letter in letters {
+        sum = sum.wrapping_add(of_letter(*letter, chart));
     }
     sum
 }

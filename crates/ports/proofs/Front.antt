@@ -1,5 +1,5 @@
 -- Laws of `front`, f done on the first n elements: what a loop over an array has after n turns. Assumes nothing.
-use Prim.Native.Nat.{ℕ, zero, suc, ◌+◌, ◌≤◌, ◌<◌}
+use Prim.Native.Nat.{ℕ, zero, suc, ◌+◌, ◌<◌, min}
 use mathlib.Core.Path.{◌≡◌, refl, ap}
 use mathlib.Core.List.{List, [], ◌∷◌}
 use native.Mathlib.Numerals.{add-one}
@@ -20,14 +20,14 @@ module _ {A : Type 0} (f : A → A) where
   front_step i l d h = rw add-one (front_suc i l d h)
 
   -- past the list's end nothing more happens
-  pub front_over : (i n : ℕ) (l : List A) → length l ≤ i → i ≤ n → front f i l ≡ front f n l
+  pub front_min : (i n : ℕ) (l : List A) → i ≡ min n (length l) → front f i l ≡ front f n l
   unfolding front
-  front_over zero zero [] h g = refl
-  front_over zero (suc n) [] h g = refl
-  front_over zero n (x ∷ xs) h g = absurd (omega arith)
-  front_over (suc i) zero l h g = absurd (omega arith)
-  front_over (suc i) (suc n) [] h g = refl
-  front_over (suc i) (suc n) (x ∷ xs) h g = ap (λ (ys : List A). f x ∷ ys) (front_over i n xs (omega arith) (omega arith))
+  front_min zero zero l h = refl
+  front_min zero (suc n) [] h = refl
+  front_min zero (suc n) (x ∷ xs) h = absurd (omega (arith, h))
+  front_min (suc i) zero l h = absurd (omega (arith, h))
+  front_min (suc i) (suc n) [] h = absurd (omega (arith, h))
+  front_min (suc i) (suc n) (x ∷ xs) h = ap (λ (ys : List A). f x ∷ ys) (front_min i n xs (omega (arith, h)))
 
   -- the elements behind the first n are left alone
   pub drop_front : (n : ℕ) (l : List A) → drop n (front f n l) ≡ drop n l

@@ -2,11 +2,11 @@
 use Prim.Native.Nat.{ℕ, zero, suc, ◌+◌, ◌-◌, ◌*◌, ◌/◌, ◌%◌, ◌<◌, ◌≤◌}
 use native.Mathlib.Omega.{arith}
 use mathlib.Core.Path.{◌≡◌, refl, sym, ◌∙◌, ap, ap₂, subst}
-use mathlib.Core.Option.{Option, none, some}
 use mathlib.Core.List.{List, [], ◌∷◌, ◌++◌, append_assoc}
-use mathlib.Core.Bool.{Bool, true, false, cond, not, ◌&&◌, and-eq-true_iff, false≢true}
+use mathlib.Core.Bool.{Bool, true, false, cond, not, and-eq-true_iff, false≢true}
 use borrow.Author.Tests.{eqb-true, eq-eqb, ne_eqb, leb-true, le-leb}
 use lib.Dec.{eqb, leb}
+use Rattle.std.proofs.Common.{Option, Some, None, Err, is_some}
 use lib.ListN.{length, get_or, take, drop, replicate, length-append, length-drop, length-replicate, take-append-drop}
 use lib.Seq.{take_all, take-add, take_at, drop_at, drop-drop, drop-append-add, get_or-take, get_or_at, get_or-append-add, length-take-le, take-append_seam, drop-append_seam}
 use Rattle.hub.specs.Call.{Call}
@@ -16,11 +16,10 @@ use Rattle.call_bytes.specs.Words.{half, half_at}
 use Rattle.call_bytes.specs.Written.{Bytes}
 use Rattle.call_bytes.proofs.Words.{half_of, half-take}
 use Rattle.call_bytes.proofs.Exact.{bytes_drop, bytes_take, half_lt}
-use Rattle.recording.specs.declared.Verdict.{Verdict}
-use Rattle.recording.specs.declared.Verdict.TheVariants.{Good, BadLength, BadCheck, BadNumber, BadCount, BadRecord}
+use Rattle.recording.specs.declared.BlockFault.TheVariants.{BadLength, BadCheck, BadNumber, BadCount, BadRecord}
 use Rattle.recording.specs.Written.{written_all, AllFit, sum_to, count_of, used_of, padded, unchecked, check_of, block_of, Writable, IsBlock}
-use Rattle.recording.specs.Calls.{calls_of, is_some, listed}
-use Rattle.recording.specs.Block.{length_fits, check_fits, number_fits, count_fits, records_fit, verdict_for, verdict_of, is_good, calls_at}
+use Rattle.recording.specs.Calls.{calls_of, listed}
+use Rattle.recording.specs.Block.{Verdict, Good, length_fits, check_fits, number_fits, count_fits, records_fit, verdict_for, verdict_of, is_good, calls_at}
 use Rattle.recording.specs.Claims.{BlockExact}
 use Rattle.recording.proofs.Rows.{back, calls_exact_lem}
 
@@ -45,7 +44,7 @@ passed p l e = go (length_fits l) refl (check_fits l) refl (number_fits p l) ref
   where
     go : (a : Bool) → length_fits l ≡ a → (b : Bool) → check_fits l ≡ b → (c : Bool) → number_fits p l ≡ c → (d : Bool) → count_fits l ≡ d
         → (f : Bool) → records_fit l ≡ f
-        → is_good (cond a (cond b (cond (true && not c) BadNumber (cond d (cond f Good BadRecord) BadCount)) BadCheck) BadLength) ≡ true → Passed p l
+        → is_good (cond a (cond b (cond c (cond d (cond f Good (Err BadRecord)) (Err BadCount)) (Err BadNumber)) (Err BadCheck)) (Err BadLength)) ≡ true → Passed p l
     go false s b t c u d v f w e = absurd (false≢true e)
     go true s false t c u d v f w e = absurd (false≢true e)
     go true s true t false u d v f w e = absurd (false≢true e)
@@ -151,9 +150,9 @@ module _ (l : List ℕ) (b : Bytes l) (long : length l ≡ 512) where
             take-add 2 (count_of l + (506 - count_of l)) (drop 2 l)
             ∙ ap₂ ◌++◌ (sym (half-take l 2 b (omega (arith, long))) ∙ ap half (sym size)) third
 
-pub some_listed : (o : Option (List Call)) → is_some o ≡ true → o ≡ some (listed o)
-some_listed none e = absurd (false≢true e)
-some_listed (some cs) e = refl
+pub some_listed : (o : Option (List Call)) → is_some o ≡ true → o ≡ Some (listed o)
+some_listed None e = absurd (false≢true e)
+some_listed (Some cs) e = refl
 
 -- what the bytes in front of the check are, where count and records fit
 pub record Filled (l : List ℕ) : Type 0 where
@@ -245,7 +244,7 @@ module _ (p : ℕ) (u : List ℕ) (v : ℕ) (room : length u ≤ 506) where
   made_sum = sym (sum-take made 510 255 (omega arith)) ∙ ap (λ (x : List ℕ). sum_to x 255) made_front
 
   -- calls that have a written form are read back
-  pub made_calls : (cs : List Call) → u ≡ written_all cs → AllFit cs → calls_of (used_of made) ≡ some cs
+  pub made_calls : (cs : List Call) → u ≡ written_all cs → AllFit cs → calls_of (used_of made) ≡ Some cs
   made_calls cs is fit = ap calls_of (made_used ∙ is) ∙ back cs fit
 
 pub check_fits_lem : (p : ℕ) (u : List ℕ) (room : length u ≤ 506) → sum_to (made p u (check_of (unchecked p u)) room) 256 % 65536 ≡ 0
@@ -277,7 +276,7 @@ block_is_good p cs w = (
     v : ℕ
     v = check_of (unchecked p (written_all cs))
 
-    calls : calls_of (used_of (made p (written_all cs) (check_of (unchecked p (written_all cs))) w.room)) ≡ some cs
+    calls : calls_of (used_of (made p (written_all cs) (check_of (unchecked p (written_all cs))) w.room)) ≡ Some cs
     calls = made_calls p u v w.room cs refl w.fit
 
 pub block_exact_lem : BlockExact

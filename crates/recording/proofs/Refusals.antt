@@ -3,20 +3,20 @@ use Prim.Native.Nat.{ℕ, zero, suc, ◌+◌, ◌-◌, ◌%◌, ◌≤◌, ◌<�
 use native.Mathlib.Omega.{arith}
 use mathlib.Core.Path.{◌≡◌, refl, sym, ◌∙◌, ap, subst}
 use mathlib.Core.List.{List, [], ◌∷◌}
-use mathlib.Core.Bool.{Bool, true, false, cond, not, ◌&&◌, and-eq-true_iff, true≢false}
+use mathlib.Core.Bool.{Bool, true, false, cond, not, and-eq-true_iff, true≢false}
 use borrow.Author.Tests.{eqb-true, eq-eqb, ne_eqb, leb-true, le-leb}
 use lib.Dec.{eqb, leb}
+use Rattle.std.proofs.Common.{Ok, Err, is_some}
 use lib.ListN.{length, get_or, take, drop, length-drop}
 use lib.Seq.{get_or-take, get_or-drop, length-take-le}
 use Rattle.area_check.specs.Rows.{blank}
 use Rattle.call_bytes.specs.Words.{half_at}
 use Rattle.call_bytes.specs.Written.{Bytes}
 use Rattle.call_bytes.proofs.Exact.{bytes_drop, bytes_take}
-use Rattle.recording.specs.declared.Verdict.{Verdict}
-use Rattle.recording.specs.declared.Verdict.TheVariants.{Good, BadLength, BadCheck, BadNumber, BadCount, BadRecord}
-use Rattle.recording.specs.Calls.{calls_of, is_some}
+use Rattle.recording.specs.declared.BlockFault.TheVariants.{BadLength, BadCheck, BadNumber, BadCount, BadRecord}
+use Rattle.recording.specs.Calls.{calls_of}
 use Rattle.recording.specs.Written.{sum_to, count_of, used_of}
-use Rattle.recording.specs.Block.{length_fits, check_fits, number_fits, count_fits, records_fit, verdict_for, verdict_of, calls_at}
+use Rattle.recording.specs.Block.{Verdict, Good, length_fits, check_fits, number_fits, count_fits, records_fit, verdict_for, verdict_of, calls_at}
 use Rattle.recording.specs.Refusals.{CountRight, RecordsRight, Right, Told, BlockRefusals}
 use Rattle.recording.proofs.Rows.{back, calls_exact_lem}
 use Rattle.recording.proofs.Blocks.{not_zero, some_listed}
@@ -92,7 +92,7 @@ told p l b = go (length_fits l) refl (check_fits l) refl (number_fits p l) refl 
   where
     go : (a : Bool) → length_fits l ≡ a → (c : Bool) → check_fits l ≡ c → (n : Bool) → number_fits p l ≡ n → (d : Bool) → count_fits l ≡ d
         → (f : Bool) → records_fit l ≡ f
-        → Told (cond a (cond c (cond (true && not n) BadNumber (cond d (cond f Good BadRecord) BadCount)) BadCheck) BadLength) p l
+        → Told (cond a (cond c (cond n (cond d (cond f Good (Err BadRecord)) (Err BadCount)) (Err BadNumber)) (Err BadCheck)) (Err BadLength)) p l
     go false s c t n u d v f w = no (eq-eqb (length l) 512) s
     go true s false t n u d v f w = (eqb-true (length l) 512 s, no (eq-eqb (sum_to l 256 % 65536) 0) t)
     go true s true t false u d v f w = (eqb-true (length l) 512 s, (eqb-true (sum_to l 256 % 65536) 0 t, no (right_number p l) u))
@@ -112,18 +112,18 @@ not_so false n = refl
 
 is_told : (v : Verdict) (p : ℕ) (l : List ℕ) → Bytes l → Told v p l → verdict_of p l ≡ v
 unfolding verdict_for
-is_told BadLength p l b t = rw (ne_eqb (length l) 512 t)
-is_told BadCheck p l b t = rw (eq-eqb (length l) 512 t.0, ne_eqb (sum_to l 256 % 65536) 0 t.1)
-is_told BadNumber p l b t =
+is_told (Err BadLength) p l b t = rw (ne_eqb (length l) 512 t)
+is_told (Err BadCheck) p l b t = rw (eq-eqb (length l) 512 t.0, ne_eqb (sum_to l 256 % 65536) 0 t.1)
+is_told (Err BadNumber) p l b t =
     rw (eq-eqb (length l) 512 t.0, eq-eqb (sum_to l 256 % 65536) 0 t.1.0, not_so (number_fits p l) (λ e. t.1.1 (number_right p l e)))
-is_told BadCount p l b t =
+is_told (Err BadCount) p l b t =
     rw (
       eq-eqb (length l) 512 t.0,
       eq-eqb (sum_to l 256 % 65536) 0 t.1.0,
       right_number p l t.1.1.0,
       not_so (count_fits l) (λ e. t.1.1.1 (count_right p l t.0 e)),
     )
-is_told BadRecord p l b t =
+is_told (Err BadRecord) p l b t =
     rw (
       eq-eqb (length l) 512 t.0,
       eq-eqb (sum_to l 256 % 65536) 0 t.1.0,
@@ -131,7 +131,7 @@ is_told BadRecord p l b t =
       right_count p l t.0 t.1.1.1.0,
       not_so (records_fit l) (λ e. t.1.1.1.1 (records_right p l b e)),
     )
-is_told Good p l b t =
+is_told (Ok tt) p l b t =
     rw (
       eq-eqb (length l) 512 t.0,
       eq-eqb (sum_to l 256 % 65536) 0 t.1.0,

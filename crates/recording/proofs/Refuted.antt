@@ -7,10 +7,12 @@ use mathlib.Core.Bool.{Bool, true, ◌&&◌, and-eq-true_iff}
 use borrow.Author.Tests.{leb-true}
 use lib.Dec.{leb}
 use lib.ListN.{get_or}
+use Rattle.std.proofs.Common.{Err}
 use Rattle.area_check.specs.Rows.{blank}
 use Rattle.call_bytes.specs.Table.{with_tag, kind_of}
-use Rattle.call_bytes.specs.Read.{is_record, read_of}
-use Rattle.recording.specs.declared.Verdict.TheVariants.{Good, BadNumber}
+use Rattle.call_bytes.specs.Read.{read_of}
+use Rattle.recording.specs.declared.BlockFault.TheVariants.{BadNumber}
+use Rattle.recording.specs.Block.{Good}
 use Rattle.recording.specs.Calls.{calls_in}
 use Rattle.recording.specs.Written.{sum_to}
 use Rattle.recording.specs.Cases.{bytes}
@@ -36,7 +38,7 @@ damaged = bytes [] (0 ∷ 1 ∷ [])
 number_first_lem : ¬ (BlockRefusals number_first)
 unfolding sum_to
 number_first_lem claim =
-    let z : ◌≡◌ {A = ℕ} 256 0 = ((claim BadNumber 1 damaged (below_at 256 damaged (omega arith) refl)).0 refl).1.0 in
+    let z : ◌≡◌ {A = ℕ} 256 0 = ((claim (Err BadNumber) 1 damaged (below_at 256 damaged (omega arith) refl)).0 refl).1.0 in
     absurd (omega (arith, z))
 
 -- ---- a tick, and a byte behind it
@@ -45,7 +47,7 @@ abbrev untidy : List ℕ
 untidy = bytes (1 ∷ 0 ∷ 1 ∷ 0 ∷ 8 ∷ 9 ∷ []) (246 ∷ 246 ∷ [])
 
 rest_unseen_lem : ¬ (BlockRefusals rest_unseen)
-unfolding sum_to blank calls_in read_of is_record kind_of with_tag
+unfolding sum_to blank calls_in read_of kind_of with_tag
 rest_unseen_lem claim =
     let t = (claim Good 1 untidy (below_at 256 untidy (omega arith) refl)).0 refl in
     let z : ◌≡◌ {A = ℕ} 9 0 = t.1.1.1.0.zeros 5 (omega arith) (omega arith) in

@@ -1,13 +1,23 @@
 -- Internal, pinned by `BlockRefusals` (Refusals.antt) and `BlockExact` (Claims.antt): the test of a block, in the order length, check, number,
 -- count, record.
-use Rattle.std.specs.Prelude.{ℕ, ◌+◌, ◌%◌, List, Bool, true, false, cond, not, ◌&&◌, eqb, leb, length, take, drop}
+use Rattle.std.specs.Prelude.{ℕ, ◌+◌, ◌%◌, List, Bool, true, cond, not, ◌&&◌, eqb, leb, length, take, drop, is_some, Option, Some, None, Result, Ok, Err, is_ok}
 use Rattle.hub.specs.Call.{Call}
 use Rattle.area_check.specs.Rows.{blank}
 use Rattle.call_bytes.specs.Words.{half_at}
-use Rattle.recording.specs.declared.Verdict.{Verdict}
-use Rattle.recording.specs.declared.Verdict.TheVariants.{Good, BadLength, BadCheck, BadNumber, BadCount, BadRecord}
-use Rattle.recording.specs.Calls.{calls_of, is_some, listed}
+use Rattle.recording.specs.declared.BlockFault.{BlockFault}
+use Rattle.recording.specs.declared.BlockFault.TheVariants.{BadLength, BadCheck, BadNumber, BadCount, BadRecord}
+use Rattle.recording.specs.Calls.{calls_of, listed}
 use Rattle.recording.specs.Written.{sum_to, count_of, used_of}
+
+-- good, or the first thing that is wrong
+abbrev pub Verdict : Type 0
+Verdict = Result (Unit {0}) BlockFault
+
+abbrev pub Good : Verdict
+Good = Ok tt
+
+abbrev pub is_good : Verdict → Bool
+is_good v = is_ok v
 
 -- a block has 512 bytes
 abbrev pub length_fits : List ℕ → Bool
@@ -35,25 +45,21 @@ is_filled l = length_fits l && (count_fits l && records_fit l)
 
 -- the first of the last two tests that fails
 abbrev pub body_of : List ℕ → Verdict
-body_of l = cond (count_fits l) (cond (records_fit l) Good BadRecord) BadCount
+body_of l = cond (count_fits l) (cond (records_fit l) Good (Err BadRecord)) (Err BadCount)
 
--- the first test that fails, in the order length, check, number, count, record; whether the number is tested is handed in, since a block that
--- is compared with another (C-22) has no place
-unfoldable pub verdict_for : Bool → ℕ → List ℕ → Verdict
-verdict_for numbered p l =
-    cond (length_fits l) (cond (check_fits l) (cond (numbered && not (number_fits p l)) BadNumber (body_of l)) BadCheck) BadLength
+-- a block that is compared with another (C-22) has no place, and any number is right
+abbrev pub number_right : Option ℕ → List ℕ → Bool
+number_right None l = true
+number_right (Some p) l = number_fits p l
+
+-- the first test that fails, in the order length, check, number, count, record
+unfoldable pub verdict_for : Option ℕ → List ℕ → Verdict
+verdict_for place l =
+    cond (length_fits l) (cond (check_fits l) (cond (number_right place l) (body_of l) (Err BadNumber)) (Err BadCheck)) (Err BadLength)
 
 -- a block at the place p of a recording
 abbrev pub verdict_of : ℕ → List ℕ → Verdict
-verdict_of p l = verdict_for true p l
-
-abbrev pub is_good : Verdict → Bool
-is_good Good = true
-is_good BadLength = false
-is_good BadCheck = false
-is_good BadNumber = false
-is_good BadCount = false
-is_good BadRecord = false
+verdict_of p l = verdict_for (Some p) l
 
 -- the calls of a good block
 abbrev pub calls_at : List ℕ → List Call

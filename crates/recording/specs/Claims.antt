@@ -1,16 +1,14 @@
 -- Reading a block is exact. A reader must believe: the written form of a block (Written.antt), and these statements.
-use Rattle.std.specs.Prelude.{ℕ, ◌≡◌, ◌↔◌, List}
-use Rattle.std.proofs.Math.Option.{some}
+use Rattle.std.specs.Prelude.{ℕ, ◌≡◌, ◌↔◌, List, Some}
 use Rattle.hub.specs.Call.{Call}
 use Rattle.call_bytes.specs.Written.{Bytes}
-use Rattle.recording.specs.declared.Verdict.TheVariants.{Good}
 use Rattle.recording.specs.Calls.{calls_of}
-use Rattle.recording.specs.Block.{verdict_of, calls_at}
+use Rattle.recording.specs.Block.{Good, verdict_of, calls_at}
 use Rattle.recording.specs.Written.{written_all, AllFit, IsBlock}
 
 -- bytes are read as these calls exactly if they are their written forms
 abbrev pub CallsExact : Type 0
-CallsExact = (l : List ℕ) (cs : List Call) → Bytes l → (calls_of l ≡ some cs) ↔ (AllFit cs × (l ≡ written_all cs))
+CallsExact = (l : List ℕ) (cs : List Call) → Bytes l → (calls_of l ≡ Some cs) ↔ (AllFit cs × (l ≡ written_all cs))
 
 pub record BlockExact : Type 0 where
   -- a block is good at its place, with these calls, exactly if it is their written form

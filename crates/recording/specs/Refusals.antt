@@ -1,12 +1,13 @@
 -- When a block is refused, and for what. A reader must believe: the five things that are right with a good block, in document 02's words, and
 -- that the first of them that isn't is told.
-use Rattle.std.specs.Prelude.{ℕ, ◌+◌, ◌%◌, ◌≤◌, ◌<◌, ◌≡◌, ◌↔◌, List, length, get_or}
+use Rattle.std.specs.Prelude.{ℕ, ◌+◌, ◌%◌, ◌≤◌, ◌<◌, ◌≡◌, ◌↔◌, List, length, get_or, Ok, Err}
 use Rattle.hub.specs.Call.{Call}
 use Rattle.call_bytes.specs.Words.{half_at}
 use Rattle.call_bytes.specs.Written.{Bytes}
-use Rattle.recording.specs.declared.Verdict.{Verdict}
-use Rattle.recording.specs.declared.Verdict.TheVariants.{Good, BadLength, BadCheck, BadNumber, BadCount, BadRecord}
+use Rattle.recording.specs.declared.BlockFault.{BlockFault}
+use Rattle.recording.specs.declared.BlockFault.TheVariants.{BadLength, BadCheck, BadNumber, BadCount, BadRecord}
 use Rattle.recording.specs.Written.{written_all, AllFit, sum_to, count_of, used_of}
+use Rattle.recording.specs.Block.{Verdict}
 
 -- at most 506 bytes are used from 4 on, and unused bytes are zero
 pub record CountRight (l : List ℕ) : Type 0 where
@@ -19,9 +20,8 @@ pub record RecordsRight (l : List ℕ) : Type 0 where
   pub fit : AllFit calls
   pub form : used_of l ≡ written_all calls
 
--- what a refusal says isn't so, of the block l at the place p
-abbrev pub Right : Verdict → ℕ → List ℕ → Type 0
-Right Good p l = Unit {0}
+-- what a fault says isn't so, of the block l at the place p
+abbrev pub Right : BlockFault → ℕ → List ℕ → Type 0
 -- blocks of 512 bytes
 Right BadLength p l = length l ≡ 512
 -- the sum of all 256 little-endian words is zero modulo 65,536
@@ -33,12 +33,12 @@ Right BadRecord p l = RecordsRight l
 
 -- refusals are block length, check, number, count, record, in that order
 abbrev pub Told : Verdict → ℕ → List ℕ → Type 0
-Told BadLength p l = ¬ (Right BadLength p l)
-Told BadCheck p l = Right BadLength p l × ¬ (Right BadCheck p l)
-Told BadNumber p l = Right BadLength p l × (Right BadCheck p l × ¬ (Right BadNumber p l))
-Told BadCount p l = Right BadLength p l × (Right BadCheck p l × (Right BadNumber p l × ¬ (Right BadCount p l)))
-Told BadRecord p l = Right BadLength p l × (Right BadCheck p l × (Right BadNumber p l × (Right BadCount p l × ¬ (Right BadRecord p l))))
-Told Good p l = Right BadLength p l × (Right BadCheck p l × (Right BadNumber p l × (Right BadCount p l × Right BadRecord p l)))
+Told (Err BadLength) p l = ¬ (Right BadLength p l)
+Told (Err BadCheck) p l = Right BadLength p l × ¬ (Right BadCheck p l)
+Told (Err BadNumber) p l = Right BadLength p l × (Right BadCheck p l × ¬ (Right BadNumber p l))
+Told (Err BadCount) p l = Right BadLength p l × (Right BadCheck p l × (Right BadNumber p l × ¬ (Right BadCount p l)))
+Told (Err BadRecord) p l = Right BadLength p l × (Right BadCheck p l × (Right BadNumber p l × (Right BadCount p l × ¬ (Right BadRecord p l))))
+Told (Ok u) p l = Right BadLength p l × (Right BadCheck p l × (Right BadNumber p l × (Right BadCount p l × Right BadRecord p l)))
 
 -- a verdict is given exactly if it is the one to be told
 abbrev pub BlockRefusals : (ℕ → List ℕ → Verdict) → Type 0

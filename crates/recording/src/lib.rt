@@ -1,37 +1,23 @@
 // A block of a recorded session: 512 bytes with a number, a count, records and a check. docs/CALLS.md lays them down.
 #![tactic(auto)]
 
-ghost use Rattle.std.specs.Prelude.{◌≡◌, ◌≤◌, ◌<◌, length};
+ghost use Rattle.std.specs.Prelude.{◌≡◌, ◌≤◌, ◌<◌, is_some};
 ghost use Rattle.recording.specs.Claims.{CallsExact, BlockExact};
-ghost use Rattle.recording.specs.Calls.{calls_of, is_some};
+ghost use Rattle.recording.specs.Calls.{calls_of};
 ghost use Rattle.recording.specs.Mistakes.{BlockMistakesShutOut};
 ghost use Rattle.recording.specs.Refusals.{BlockRefusals};
 ghost use Rattle.recording.specs.Written.{sum_to, count_of};
-ghost use Rattle.recording.specs.Block.{number_fits, count_fits, records_fit, is_filled, body_of, is_good, verdict_for, verdict_of};
+ghost use Rattle.recording.specs.Block.{number_right, count_fits, records_fit, is_filled, body_of, verdict_for, verdict_of};
 ghost use Rattle.recording.specs.Cases.{BlockCases};
 
-// Good, or the first thing that is wrong.
-#[derive(Clone, Copy)]
-pub enum Verdict {
-    Good,
+// The first thing that is wrong with a block.
+#[derive(Clone, Copy, PartialEq, Eq)]
+pub enum BlockFault {
     BadLength,
     BadCheck,
     BadNumber,
     BadCount,
     BadRecord,
-}
-
-pub fn is_good(verdict: Verdict) -> bool
-    ensures { result ≡ is_good verdict }
-{
-    match verdict {
-        Verdict::Good => true,
-        Verdict::BadLength => false,
-        Verdict::BadCheck => false,
-        Verdict::BadNumber => false,
-        Verdict::BadCount => false,
-        Verdict::BadRecord => false,
-    }
 }
 
 // ---- its parts
@@ -41,12 +27,9 @@ pub fn is_good(verdict: Verdict) -> bool
 pub fn word_sum(s: &[u8], words: u16) -> u32
     ensures { result ≡ sum_to s.now words }
 {
-    let mut sum: u32 = 0;
-    let mut i: u32 = 0;
-    while i < words as u32 {
-        let at = 2 * i;
-        sum += call_bytes::half_at(s, at);
-        i += 1;
+    let mut sum = 0;
+    for i in 0..u32::from(words) {
+        sum += u32::from(call_bytes::half_at(s, 2 * i));
     }
     sum
 }
@@ -55,14 +38,12 @@ pub fn word_sum(s: &[u8], words: u16) -> u32
 fn are_records(s: &[u8]) -> bool
     ensures { result ≡ is_some (calls_of s.now) }
 {
-    let mut at: usize = 0;
-    while at < s.len() {
-        let record = call_bytes::read_record(&s[at..]);
-        let kind = record.kind;
-        if !call_bytes::is_known(kind) {
+    let mut rest = s;
+    while !rest.is_empty() {
+        let Some(record) = call_bytes::read_record(rest) else {
             return false;
-        }
-        at += record.length;
+        };
+        rest = &rest[record.length..];
     }
     true
 }
@@ -71,80 +52,70 @@ fn are_records(s: &[u8]) -> bool
 pub fn count(s: &[u8]) -> usize
     ensures { (result ≡ count_of s.now) × (result < 65536) }
 {
-    call_bytes::half_at(s, 2) as usize
+    usize::from(call_bytes::half_at(s, 2))
 }
 
-fn count_fits(s: &[u8]) -> bool
-    requires { length s.now ≡ 512 }
-    ensures { result ≡ count_fits s.now }
+fn count_fits(block: &[u8; 512]) -> bool
+    ensures { result ≡ count_fits block.now }
 {
-    let n = count(s);
-    if 506 < n {
-        return false;
-    }
-    let start = 4 + n;
-    area_check::blank_from(&s[..510], start)
+    let n = count(block);
+    n <= 506 && area_check::blank_from(&block[..510], 4 + n)
 }
 
-fn records_fit(s: &[u8]) -> bool
-    requires { (length s.now ≡ 512) × (count_of s.now ≤ 506) }
-    ensures { result ≡ records_fit s.now }
+fn records_fit(block: &[u8; 512]) -> bool
+    requires { count_of block.now ≤ 506 }
+    ensures { result ≡ records_fit block.now }
 {
-    let n = count(s);
-    let end = 4 + n;
-    are_records(&s[4..end])
+    let end = 4 + count(block);
+    are_records(&block[4..end])
 }
 
 // Count and records.
-fn body(s: &[u8]) -> Verdict
-    requires { length s.now ≡ 512 }
-    ensures { result ≡ body_of s.now }
+fn body(block: &[u8; 512]) -> Result<(), BlockFault>
+    ensures { result ≡ body_of block.now }
 {
-    if !count_fits(s) {
-        return Verdict::BadCount;
+    if !count_fits(block) {
+        return Err(BlockFault::BadCount);
     }
-    if !records_fit(s) {
-        return Verdict::BadRecord;
+    if !records_fit(block) {
+        return Err(BlockFault::BadRecord);
     }
-    Verdict::Good
+    Ok(())
 }
 
 // 512 bytes whose count and records fit.
 pub fn is_filled(s: &[u8]) -> bool
     ensures { result ≡ is_filled s.now }
 {
-    if s.len() != 512 {
-        return false;
+    match s.as_array() {
+        Some(block) => count_fits(block) && records_fit(block),
+        None => false,
     }
-    if !count_fits(s) {
-        return false;
-    }
-    records_fit(s)
 }
 
 // ---- the whole
 
-// Whether the number is the place; no number is right for place 0 or for one above 65,535.
-fn number_fits(s: &[u8], place: u32) -> bool
-    ensures { result ≡ number_fits place s.now }
+// Whether the number is the place, if there is one; no number is right for place 0 or for one above 65,535.
+fn number_right(block: &[u8; 512], place: Option<u32>) -> bool
+    ensures { result ≡ number_right place block.now }
 {
-    bools::both(place != 0, call_bytes::half_at(s, 0) == place)
+    place.is_none_or(|place| place != 0 && u32::from(call_bytes::half_at(block, 0)) == place)
 }
 
-// The verdict on a block, where the number is tested against a place if asked for.
-pub fn check(s: &[u8], numbered: bool, place: u32) -> Verdict
-    ensures { result ≡ verdict_for numbered place s.now }
+// The test of a block, which may have no place.
+pub fn check(s: &[u8], place: Option<u32>) -> Result<(), BlockFault>
+    ensures { result ≡ verdict_for place s.now }
 {
-    if s.len() != 512 {
-        return Verdict::BadLength;
+    let Some(block) = s.as_array::<512>() else {
+        return Err(BlockFault::BadLength);
+    };
+    if word_sum(block, 256) % 65536 != 0 {
+        return Err(BlockFault::BadCheck);
     }
-    if word_sum(s, 256) % 65536 != 0 {
-        return Verdict::BadCheck;
+    if !number_right(block, place) {
+        return Err(BlockFault::BadNumber);
     }
-    if bools::both(numbered, !number_fits(s, place)) {
-        return Verdict::BadNumber;
-    }
-    body(s)
+    body(block)
 }
 
 fn block_refusals()

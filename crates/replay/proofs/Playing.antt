@@ -4,19 +4,19 @@ use native.Mathlib.Omega.{arith}
 use mathlib.Core.Path.{◌≡◌, refl, sym, ◌∙◌, ap, ap₂}
 use mathlib.Core.List.{List, [], ◌∷◌, ◌++◌, append_assoc, append-nil}
 use mathlib.Core.Bool.{Bool, true, false}
-use lib.ListN.{length, take, drop, length-append, length-drop, length-take}
+use lib.ListN.{length, get_or, take, drop, length-append, length-drop, length-take}
 use lib.Seq.{drop-drop, take-length, drop-length, take_all}
 use borrow.Rule.Slice.PartMut.{put_mid}
 use Rattle.payload.specs.declared.Payload.{Payload}
 use Rattle.payload.specs.Payload as payload
 use Rattle.hub.specs.Call.{Answer}
 use Rattle.replay.specs.Answers.{head_bytes, answer_bytes}
+use mir.Val.{bool_byte}
 use Rattle.buffer.specs.declared.Slot.{Slot}
 use Rattle.buffer.specs.declared.Buffer.{Buffer}
-use Rattle.buffer.specs.Buffer.{is_active}
 use Rattle.bools.specs.Bit.{bit}
 use Rattle.translator.specs.Translator.{tally}
-use Rattle.translator.specs.Slots.{slots_in, bare}
+use Rattle.translator.specs.Slots.{slots_in}
 use Rattle.runs.specs.Tally.{Tally}
 use Rattle.replay.specs.Counting.{tallied_by}
 use Rattle.replay.proofs.Tallying.{tally_is}
@@ -40,13 +40,38 @@ module _ (s a e before after : ℕ) where
       → ◌≡◌ {A = Tally} (record { stored = s; answered = a; emptied = e + (before - after) }) (tallied_by complete before after was)
   fewer_emptied c t h = rw t (tally_is _ _ (omega arith) (omega arith) refl)
 
-tally-bare : (f : Slot → Bool) (bs : List Buffer) → tally f (bare (slots_in bs)) ≡ tally f bs
-unfolding tally bare
-tally-bare f [] = refl
-tally-bare f (b ∷ bs) = ap (λ (n : ℕ). bit (f b.slot) + n) (tally-bare f bs)
+one_bit : (x : Bool) → (bool_byte x ≡ bit x) × (bit x ≤ 1)
+one_bit true = (refl, omega arith)
+one_bit false = (refl, omega arith)
 
-pub active_is : (bs : List Buffer) (ss : List Slot) (n : ℕ) → ss ≡ slots_in bs → n ≡ tally is_active (bare ss) → n ≡ tally is_active bs
-active_is bs ss n e q = q ∙ ap (λ (x : List Slot). tally is_active (bare x)) e ∙ tally-bare is_active bs
+-- a tally of four buffers by their slots
+tally_slots : (f : Slot → Bool) (d : Slot) (bs : List Buffer) → length (slots_in bs) ≡ 4
+    → tally f bs ≡ bit (f (get_or (slots_in bs) 0 d)) + (bit (f (get_or (slots_in bs) 1 d)) + (bit (f (get_or (slots_in bs) 2 d)) + (bit (f (get_or (slots_in bs) 3 d)) + 0)))
+unfolding tally
+tally_slots f d [] e = absurd (omega (arith, e))
+tally_slots f d (w ∷ []) e = absurd (omega (arith, e))
+tally_slots f d (w ∷ x ∷ []) e = absurd (omega (arith, e))
+tally_slots f d (w ∷ x ∷ y ∷ []) e = absurd (omega (arith, e))
+tally_slots f d (w ∷ x ∷ y ∷ z ∷ []) e = refl
+tally_slots f d (w ∷ x ∷ y ∷ z ∷ v ∷ l) e = absurd (omega (arith, e))
+
+pub sum_slots : (f : Slot → Bool) (d : Slot) (bs : List Buffer) (ss : List Slot) → ss ≡ slots_in bs → length ss ≡ 4 → {b₀ b₁ b₂ b₃ : Bool} {n₀ n₁ n₂ n₃ : ℕ}
+    → n₀ ≡ bool_byte b₀ → n₁ ≡ bool_byte b₁ → n₂ ≡ bool_byte b₂ → n₃ ≡ bool_byte b₃
+    → b₀ ≡ f (get_or ss 0 d) → b₁ ≡ f (get_or ss 1 d) → b₂ ≡ f (get_or ss 2 d) → b₃ ≡ f (get_or ss 3 d)
+    → (n₀ + n₁ + n₂ + n₃ ≡ tally f bs) × (n₀ + n₁ + n₂ + n₃ ≤ 4)
+sum_slots f d bs ss e long {b₀} {b₁} {b₂} {b₃} p q r s t u v w =
+    let whole = tally_slots f d bs (ap length (sym e) ∙ long) in
+    let at : (i : ℕ) → f (get_or ss i d) ≡ f (get_or (slots_in bs) i d) = λ i. ap (λ (l : List Slot). f (get_or l i d)) e in (
+      omega (
+        arith,
+        whole,
+        p ∙ (one_bit b₀).0 ∙ ap bit (t ∙ at 0),
+        q ∙ (one_bit b₁).0 ∙ ap bit (u ∙ at 1),
+        r ∙ (one_bit b₂).0 ∙ ap bit (v ∙ at 2),
+        s ∙ (one_bit b₃).0 ∙ ap bit (w ∙ at 3),
+      ),
+      omega (arith, p ∙ (one_bit b₀).0, q ∙ (one_bit b₁).0, r ∙ (one_bit b₂).0, s ∙ (one_bit b₃).0, (one_bit b₀).1, (one_bit b₁).1, (one_bit b₂).1, (one_bit b₃).1),
+    )
 
 -- ---- an answer, at the start of the output: its head, then its bytes
 

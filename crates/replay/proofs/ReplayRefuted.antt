@@ -6,6 +6,7 @@ use mathlib.Core.List.{List, [], ◌∷◌}
 use mathlib.Core.Bool.{true, false}
 use borrow.Author.Tests.{eq-eqb, le-leb}
 use lib.ListN.{length}
+use Rattle.std.proofs.Common.{None, Err, is_some}
 use Rattle.buffer.specs.Same.{same_key}
 use Rattle.buffer.specs.Lengths.{numbers_fit, start_fits}
 use Rattle.translator.specs.Order.{pass, ranked}
@@ -28,11 +29,11 @@ use Rattle.runs.proofs.Refuted.{bench, configure, in_to}
 use Rattle.call_bytes.specs.Words.{half_at, words}
 use Rattle.call_bytes.specs.Table.{with_tag, kind_of as kind_tagged, form_of}
 use Rattle.call_bytes.specs.Written.{written_form, Fits}
-use Rattle.call_bytes.specs.Read.{is_record, read_of}
-use Rattle.recording.specs.declared.Verdict.TheVariants.{Good, BadNumber, BadRecord}
+use Rattle.call_bytes.specs.Read.{read_of}
+use Rattle.recording.specs.declared.BlockFault.TheVariants.{BadNumber, BadRecord}
 use Rattle.recording.specs.Written.{written_all, AllFit, sum_to, count_of, used_of, unchecked, check_of, block_of, Writable}
-use Rattle.recording.specs.Calls.{calls_in, calls_of, is_some}
-use Rattle.recording.specs.Block.{verdict_for, verdict_of, is_good, calls_at}
+use Rattle.recording.specs.Calls.{calls_in, calls_of}
+use Rattle.recording.specs.Block.{Good, verdict_for, verdict_of, is_good, calls_at}
 use Rattle.recording.proofs.Refuted.{below, below_at}
 use Rattle.recording.proofs.Blocks.{Passed, passed, block_is_good, made, made_length, made_number, made_count, made_used, made_zeros, check_fits_lem}
 use Rattle.replay.specs.Answers.{answer_bytes, answers_in}
@@ -83,11 +84,11 @@ module _ (p : ℕ) (first : 1 ≤ p) (last : p ≤ 65535) where
 -- ---- a block at another place
 
 module _ (l : List ℕ) (t : Passed 2 l) where
-  other_place : verdict_of 1 l ≡ BadNumber
+  other_place : verdict_of 1 l ≡ (Err BadNumber)
   unfolding verdict_for
   other_place = rw (eq-eqb (length l) 512 t.long, eq-eqb (sum_to l 256 % 65536) 0 t.check, t.number)
 
-  untested : verdict_for false 1 l ≡ Good
+  untested : verdict_for None l ≡ Good
   unfolding verdict_for
   untested =
       rw (eq-eqb (length l) 512 t.long, eq-eqb (sum_to l 256 % 65536) 0 t.check, le-leb (count_of l) 506 t.few, t.zeros, t.records)
@@ -104,10 +105,10 @@ abbrev bad : List ℕ
 bad = made 1 used check (omega arith)
 
 no_records : is_some (calls_of (used_of bad)) ≡ false
-unfolding calls_in read_of is_record kind_tagged with_tag
+unfolding calls_in read_of kind_tagged with_tag
 no_records = ap (λ (l : List ℕ). is_some (calls_of l)) (made_used 1 used check (omega arith))
 
-bad_record : verdict_of 1 bad ≡ BadRecord
+bad_record : verdict_of 1 bad ≡ (Err BadRecord)
 unfolding verdict_for
 bad_record =
     let few : count_of bad ≤ 506 = omega (arith, made_count 1 used check (omega arith)) in
@@ -120,13 +121,13 @@ bad_record =
       no_records,
     )
 
-before : (h : Hub) → before_bad h 1 bad ≡ with_verdict BadRecord (played_calls h (Tick ∷ []))
-unfolding before_bad calls_before read_of is_record kind_tagged with_tag
+before : (h : Hub) → before_bad h 1 bad ≡ with_verdict (Err BadRecord) (played_calls h (Tick ∷ []))
+unfolding before_bad calls_before read_of kind_tagged with_tag
 before h =
     rw bad_record
-    (ap (λ (l : List ℕ). with_verdict BadRecord (played_calls h (calls_before (length l) l))) (made_used 1 used check (omega arith)))
+    (ap (λ (l : List ℕ). with_verdict (Err BadRecord) (played_calls h (calls_before (length l) l))) (made_used 1 used check (omega arith)))
 
-refuses : (h : Hub) → block_played h 1 bad ≡ played_none h BadRecord
+refuses : (h : Hub) → block_played h 1 bad ≡ played_none h (Err BadRecord)
 unfolding block_played
 refuses h = rw bad_record
 
@@ -153,7 +154,7 @@ number_counts claim =
     let l = block_of 2 calls in
     let z : ◌≡◌ {A = ℕ} 2 1 =
     ap (λ (r : Replayed Hub). r.stop.place)
-    (shown unnumbered l {a = played_calls new (calls_at l)} {b = played_none new BadNumber} (rw (untested l t)) (rw (other_place l t)) claim) in
+    (shown unnumbered l {a = played_calls new (calls_at l)} {b = played_none new (Err BadNumber)} (rw (untested l t)) (rw (other_place l t)) claim) in
     omega (arith, z)
 
 -- a tick is answered in front of a bad record

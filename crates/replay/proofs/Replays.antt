@@ -5,6 +5,7 @@ use mathlib.Core.Path.{◌≡◌, refl, sym, ◌∙◌, ap, ap₂, subst}
 use mathlib.Core.List.{List, [], ◌∷◌, ◌++◌, append_assoc}
 use mathlib.Core.Bool.{Bool, true, false}
 use lib.ListN.{length}
+use Rattle.std.proofs.Common.{Ok, Err}
 use Rattle.hub.specs.declared.Hub.{Hub}
 use Rattle.hub.specs.Call.{Call}
 use Rattle.hub.specs.Step.{step}
@@ -12,9 +13,7 @@ use Rattle.runs.specs.History.{Event}
 use Rattle.runs.specs.Machine.{rules, run_from, after_from, new_hub_of}
 use Rattle.runs.specs.Tally.{Tally, active_buffers}
 use Rattle.runs.proofs.Tallied.{tally_holds}
-use Rattle.recording.specs.Block.{verdict_of, is_good, calls_at}
-use Rattle.recording.specs.declared.Verdict.{Verdict}
-use Rattle.recording.specs.declared.Verdict.TheVariants.{Good, BadLength, BadCheck, BadNumber, BadCount, BadRecord}
+use Rattle.recording.specs.Block.{Verdict, Good, verdict_of, is_good, calls_at}
 use Rattle.recording.specs.Written.{IsBlock}
 use Rattle.recording.proofs.Blocks.{block_is_good, block_exact_lem}
 use Rattle.replay.specs.Answers.{answer_bytes, answers_in}
@@ -118,12 +117,8 @@ sums w exact m bs =
 -- ---- what was recorded
 
 not_good : (v : Verdict) → ¬ (v ≡ Good) → is_good v ≡ false
-not_good Good n = absurd (n refl)
-not_good BadLength n = refl
-not_good BadCheck n = refl
-not_good BadNumber n = refl
-not_good BadCount n = refl
-not_good BadRecord n = refl
+not_good (Ok tt) n = absurd (n refl)
+not_good (Err f) n = refl
 
 recorded : (p : ℕ) (css : List (List Call)) → AllWritable p css → RecordedReplays p css
 unfolding blocks_of AllWritable joined calls_from stop_from

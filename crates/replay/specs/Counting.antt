@@ -17,7 +17,6 @@ abbrev pub plus : Tally → Tally → Tally
 plus t u = record { stored = t.stored + u.stored; answered = t.answered + u.answered; emptied = t.emptied + u.emptied }
 
 abbrev pub is_complete_kind : CallKind → Bool
-is_complete_kind kind.Unknown = false
 is_complete_kind kind.Control = false
 is_complete_kind kind.Poll = false
 is_complete_kind kind.StartSplit = false

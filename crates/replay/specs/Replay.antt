@@ -6,9 +6,7 @@ use Rattle.hub.specs.Call.{Call}
 use Rattle.runs.specs.Machine.{Numbers, new_hub_of, rules, run, run_from, after_from}
 use Rattle.runs.specs.Tally.{Tally, tally_of, past, active_buffers}
 use Rattle.call_bytes.specs.Written.{Bytes}
-use Rattle.recording.specs.declared.Verdict.{Verdict}
-use Rattle.recording.specs.declared.Verdict.TheVariants.{Good}
-use Rattle.recording.specs.Block.{verdict_of, is_good, calls_at}
+use Rattle.recording.specs.Block.{Verdict, Good, verdict_of, is_good, calls_at}
 use Rattle.recording.specs.Written.{block_of, Writable, IsBlock}
 use Rattle.replay.specs.Answers.{answers_in}
 use Rattle.replay.specs.Counting.{no_tally, plus, tallied}

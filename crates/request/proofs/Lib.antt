@@ -1,5 +1,3 @@
-pub mod KindNamed
-pub mod Reading
 pub mod Written
 pub mod Exact
 pub mod Claimed

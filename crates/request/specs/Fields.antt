@@ -12,7 +12,7 @@ use Rattle.buffer.specs.declared.Direction.TheVariants as direction
 use Rattle.request.specs.declared.Pipe.{Pipe}
 use Rattle.request.specs.declared.Setup.{Setup}
 use Rattle.request.specs.declared.Request.{Request}
-use Rattle.request.specs.declared.Request.TheVariants.{Wrong, SetConfiguration, GetConfiguration, GetHubDescriptor, GetHubStatus, GetPortStatus, ClearHubFeature, ClearPortFeature, SetPortFeature, ClearTTBuffer, ResetTT}
+use Rattle.request.specs.declared.Request.TheVariants.{SetConfiguration, GetConfiguration, GetHubDescriptor, GetHubStatus, GetPortStatus, ClearHubFeature, ClearPortFeature, SetPortFeature, ClearTTBuffer, ResetTT}
 
 -- Features carry the status bit's number: 2 suspend, 4 reset, 8 power
 abbrev pub settable_number : SettableFeature → ℕ
@@ -52,9 +52,8 @@ PipeInRange k = (k.address.0 < 128) × (k.endpoint < 16)
 abbrev pub fields : ℕ → ℕ → ℕ → ℕ → ℕ → Setup
 fields t c v i l = record { requesttype = t; code = c; value = v; index = i; length = l }
 
--- these fields ask for this request, on a hub with n ports. A wrong one has no row; the claims leave it out.
+-- these fields ask for this request, on a hub with n ports
 abbrev pub AsksFor : ℕ → Setup → Request → Type 0
-AsksFor n s (Wrong f) = Unit {0}
 AsksFor n s (SetConfiguration one) = s ≡ fields 0x00 0x09 (cond one 1 0) 0 0
 AsksFor n s GetConfiguration = s ≡ fields 0x80 0x08 0 0 1
 AsksFor n s (GetHubDescriptor l) = s ≡ fields 0xA0 0x06 0x2900 0 l

@@ -2,12 +2,11 @@
 use Rattle.std.specs.Prelude.{ℕ}
 use Rattle.port.specs.Words.{Among}
 use Rattle.request.specs.declared.Request.{Request}
-use Rattle.request.specs.declared.Request.TheVariants.{Wrong, SetConfiguration, GetConfiguration, GetHubDescriptor, GetHubStatus, GetPortStatus, ClearHubFeature, ClearPortFeature, SetPortFeature, ClearTTBuffer, ResetTT}
+use Rattle.request.specs.declared.Request.TheVariants.{SetConfiguration, GetConfiguration, GetHubDescriptor, GetHubStatus, GetPortStatus, ClearHubFeature, ClearPortFeature, SetPortFeature, ClearTTBuffer, ResetTT}
 use Rattle.request.specs.Fields.{PipeInRange}
 
 -- the numbers in a request are within document 01's ranges
 abbrev pub InRange : ℕ → Request → Type 0
-InRange n (Wrong f) = Unit {0}
 InRange n (SetConfiguration one) = Unit {0}
 InRange n GetConfiguration = Unit {0}
 InRange n (GetHubDescriptor l) = Unit {0}

@@ -1,42 +1,27 @@
 -- Internal, pinned by `RequestClaims` (Claims.antt), which ties it to Fields.antt: the table of document 01, "Requests and layouts", read from
 -- the fields to the request. One row here per row there, with its type, code and fields. Unlisted fields are zero, wIndex high byte included.
-use Rattle.std.specs.Prelude.{ℕ, Bool, true, false, cond, ◌&&◌, eqb, leb}
+use Rattle.std.specs.Prelude.{ℕ, Bool, true, cond, ◌&&◌, eqb, leb, Option, Some, None}
 use Rattle.request.specs.declared.Kind.{Kind}
-use Rattle.request.specs.declared.Kind.TheVariants.{Unknown, SetConfiguration, GetConfiguration, GetHubDescriptor, GetHubStatus, GetPortStatus, ClearHubFeature, ClearPortFeature, SetPortFeature, ClearTTBuffer, ResetTT}
+use Rattle.request.specs.declared.Kind.TheVariants.{SetConfiguration, GetConfiguration, GetHubDescriptor, GetHubStatus, GetPortStatus, ClearHubFeature, ClearPortFeature, SetPortFeature, ClearTTBuffer, ResetTT}
 use Rattle.request.specs.Values.{is_settable, is_clearable, is_pipe}
 
--- Type, code
-unfoldable pub kind_of : ℕ → ℕ → Kind
+-- Type, code. Anything else is 2.
+unfoldable pub kind_of : ℕ → ℕ → Option Kind
 kind_of type code =
-    cond (eqb type 0x00 && eqb code 0x09) SetConfiguration
-    (cond (eqb type 0x80 && eqb code 0x08) GetConfiguration
-    (cond (eqb type 0xA0 && eqb code 0x06) GetHubDescriptor
-    (cond (eqb type 0xA0 && eqb code 0x00) GetHubStatus
-    (cond (eqb type 0xA3 && eqb code 0x00) GetPortStatus
-    (cond (eqb type 0x20 && eqb code 0x01) ClearHubFeature
-    (cond (eqb type 0x23 && eqb code 0x01) ClearPortFeature
-    (cond (eqb type 0x23 && eqb code 0x03) SetPortFeature
-    (cond (eqb type 0x23 && eqb code 0x08) ClearTTBuffer
-    (cond (eqb type 0x23 && eqb code 0x09) ResetTT
-    Unknown)))))))))
-
--- Anything else is 2.
-abbrev pub is_known : Kind → Bool
-is_known Unknown = false
-is_known SetConfiguration = true
-is_known GetConfiguration = true
-is_known GetHubDescriptor = true
-is_known GetHubStatus = true
-is_known GetPortStatus = true
-is_known ClearHubFeature = true
-is_known ClearPortFeature = true
-is_known SetPortFeature = true
-is_known ClearTTBuffer = true
-is_known ResetTT = true
+    cond (eqb type 0x00 && eqb code 0x09) (Some SetConfiguration)
+    (cond (eqb type 0x80 && eqb code 0x08) (Some GetConfiguration)
+    (cond (eqb type 0xA0 && eqb code 0x06) (Some GetHubDescriptor)
+    (cond (eqb type 0xA0 && eqb code 0x00) (Some GetHubStatus)
+    (cond (eqb type 0xA3 && eqb code 0x00) (Some GetPortStatus)
+    (cond (eqb type 0x20 && eqb code 0x01) (Some ClearHubFeature)
+    (cond (eqb type 0x23 && eqb code 0x01) (Some ClearPortFeature)
+    (cond (eqb type 0x23 && eqb code 0x03) (Some SetPortFeature)
+    (cond (eqb type 0x23 && eqb code 0x08) (Some ClearTTBuffer)
+    (cond (eqb type 0x23 && eqb code 0x09) (Some ResetTT)
+    None)))))))))
 
 -- Fields: the value. 2900 is hexadecimal.
 abbrev pub value_fits : Kind → ℕ → Bool
-value_fits Unknown v = false
 value_fits SetConfiguration v = leb v 1
 value_fits GetConfiguration v = eqb v 0
 value_fits GetHubDescriptor v = eqb v 0x2900
@@ -54,7 +39,6 @@ is_port n i = leb 1 i && leb i n
 
 -- Fields: the index, on a hub with n ports
 abbrev pub index_fits : ℕ → Kind → ℕ → Bool
-index_fits n Unknown i = false
 index_fits n SetConfiguration i = eqb i 0
 index_fits n GetConfiguration i = eqb i 0
 index_fits n GetHubDescriptor i = eqb i 0
@@ -68,7 +52,6 @@ index_fits n ResetTT i = eqb i 1
 
 -- Fields: the length
 abbrev pub length_fits : Kind → ℕ → Bool
-length_fits Unknown l = false
 length_fits SetConfiguration l = eqb l 0
 length_fits GetConfiguration l = eqb l 1
 length_fits GetHubDescriptor l = true

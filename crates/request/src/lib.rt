@@ -13,7 +13,7 @@ ghost use Rattle.request.specs.Values.{
   direction_in,
   pipe_in,
 };
-ghost use Rattle.request.specs.Table.{kind_of, is_known, value_fits, is_port, index_fits, length_fits};
+ghost use Rattle.request.specs.Table.{kind_of, value_fits, is_port, index_fits, length_fits};
 ghost use Rattle.request.specs.Request.{port_in, meaning, request_of};
 ghost use Rattle.request.specs.Claims.{RequestClaims};
 ghost use Rattle.request.specs.Cases.{CasesHold};
@@ -32,9 +32,8 @@ pub struct Setup {
 }
 
 // The row of the table that type and code name.
-#[derive(Clone, Copy)]
+#[derive(Clone, Copy, PartialEq, Eq)]
 pub enum Kind {
-    Unknown,
     SetConfiguration,
     GetConfiguration,
     GetHubDescriptor,
@@ -48,7 +47,7 @@ pub enum Kind {
 }
 
 // What is wrong first, in this order.
-#[derive(Clone, Copy)]
+#[derive(Clone, Copy, PartialEq, Eq)]
 pub enum Fault {
     TypeOrCode,
     Value,
@@ -67,7 +66,6 @@ pub struct Pipe {
 // GetHubDescriptor has wLength, SetConfiguration whether its value is 1.
 #[derive(Clone, Copy)]
 pub enum Request {
-    Wrong(Fault),
     SetConfiguration(bool),
     GetConfiguration,
     GetHubDescriptor(u16),
@@ -84,46 +82,48 @@ pub enum Request {
 fn word(low: u8, high: u8) -> u16
     ensures { result ≡ word_of low high }
 {
-    low as u16 + 256 * (high as u16)
+    u16::from_le_bytes([low, high])
 }
 
 // The fields of the eight setup bytes.
-pub fn setup_of(bytes: [u8; 8]) -> Setup
-    ensures { result ≡ setup_of bytes }
-{
-    Setup {
-        requesttype: bytes[0],
-        code: bytes[1],
-        value: word(bytes[2], bytes[3]),
-        index: word(bytes[4], bytes[5]),
-        length: word(bytes[6], bytes[7]),
+impl From<[u8; 8]> for Setup {
+    ghost from_gives = { λ bytes setup. setup ≡ setup_of bytes };
+
+    fn from(bytes: [u8; 8]) -> Setup {
+        Setup {
+            requesttype: bytes[0],
+            code: bytes[1],
+            value: word(bytes[2], bytes[3]),
+            index: word(bytes[4], bytes[5]),
+            length: word(bytes[6], bytes[7]),
+        }
     }
 }
 
-// Type and code looked at as one number, type first.
-pub fn kind_of(requesttype: u8, code: u8) -> Kind
+// The row that type and code name, if one does.
+#[tactic(auto, unfolding(crate::specs::Table::kind_of))]
+pub fn kind_of(requesttype: u8, code: u8) -> Option<Kind>
     ensures { result ≡ kind_of requesttype code }
 {
-    let named = word(code, requesttype);
-    match named {
-        0x0009 => Kind::SetConfiguration,
-        0x8008 => Kind::GetConfiguration,
-        0xA006 => Kind::GetHubDescriptor,
-        0xA000 => Kind::GetHubStatus,
-        0xA300 => Kind::GetPortStatus,
-        0x2001 => Kind::ClearHubFeature,
-        0x2301 => Kind::ClearPortFeature,
-        0x2303 => Kind::SetPortFeature,
-        0x2308 => Kind::ClearTTBuffer,
-        0x2309 => Kind::ResetTT,
-        _ => Kind::Unknown,
+    match (requesttype, code) {
+        (0x00, 0x09) => Some(Kind::SetConfiguration),
+        (0x80, 0x08) => Some(Kind::GetConfiguration),
+        (0xA0, 0x06) => Some(Kind::GetHubDescriptor),
+        (0xA0, 0x00) => Some(Kind::GetHubStatus),
+        (0xA3, 0x00) => Some(Kind::GetPortStatus),
+        (0x20, 0x01) => Some(Kind::ClearHubFeature),
+        (0x23, 0x01) => Some(Kind::ClearPortFeature),
+        (0x23, 0x03) => Some(Kind::SetPortFeature),
+        (0x23, 0x08) => Some(Kind::ClearTTBuffer),
+        (0x23, 0x09) => Some(Kind::ResetTT),
+        _ => None,
     }
 }
 
 fn is_settable(value: u16) -> bool
     ensures { result ≡ is_settable value }
 {
-    bools::either(value == 2, bools::either(value == 4, value == 8))
+    matches!(value, 2 | 4 | 8)
 }
 
 fn settable_of(value: u16) -> SettableFeature
@@ -139,13 +139,7 @@ fn settable_of(value: u16) -> SettableFeature
 fn is_clearable(value: u16) -> bool
     ensures { result ≡ is_clearable value }
 {
-    bools::either(
-        value == 1,
-        bools::either(
-            value == 2,
-            bools::either(value == 8, bools::both(16 <= value, value <= 20)),
-        ),
-    )
+    matches!(value, 1 | 2 | 8 | 16..=20)
 }
 
 fn change_of(value: u16) -> ChangeBit
@@ -175,11 +169,7 @@ fn clearable_of(value: u16) -> ClearableFeature
 fn is_pipe(value: u16) -> bool
     ensures { result ≡ is_pipe value }
 {
-    let transfer = value / 2048 % 4;
-    bools::both(
-        bools::either(transfer == 0, transfer == 2),
-        value / 8192 % 4 == 0,
-    )
+    matches!(value / 2048 % 4, 0 | 2) && value / 8192 % 4 == 0
 }
 
 fn direction_in(bit: u16) -> Direction
@@ -206,7 +196,7 @@ fn pipe_in(value: u16) -> Pipe
 fn is_port(ports: PortCount, index: u16) -> bool
     ensures { result ≡ is_port ports.0 index }
 {
-    bools::both(1 <= index, index <= ports.0 as u16)
+    1 <= index && index <= ports.0 as u16
 }
 
 // The port that wIndex names, once it is found to be one of the hub's.
@@ -217,39 +207,17 @@ fn port_in(index: u16) -> PortNumber
 }
 
 impl Kind {
-    pub fn is_known(self) -> bool
-        ensures { result ≡ is_known self }
-    {
-        match self {
-            Kind::Unknown => false,
-            Kind::SetConfiguration => true,
-            Kind::GetConfiguration => true,
-            Kind::GetHubDescriptor => true,
-            Kind::GetHubStatus => true,
-            Kind::GetPortStatus => true,
-            Kind::ClearHubFeature => true,
-            Kind::ClearPortFeature => true,
-            Kind::SetPortFeature => true,
-            Kind::ClearTTBuffer => true,
-            Kind::ResetTT => true,
-        }
-    }
-
     fn value_fits(self, value: u16) -> bool
         ensures { result ≡ value_fits self value }
     {
         match self {
-            Kind::Unknown => false,
-            Kind::SetConfiguration => value <= 1,
-            Kind::GetConfiguration => value == 0,
+            Kind::SetConfiguration | Kind::ClearHubFeature => value <= 1,
             Kind::GetHubDescriptor => value == 0x2900,
-            Kind::GetHubStatus => value == 0,
-            Kind::GetPortStatus => value == 0,
-            Kind::ClearHubFeature => value <= 1,
             Kind::ClearPortFeature => is_clearable(value),
             Kind::SetPortFeature => is_settable(value),
             Kind::ClearTTBuffer => is_pipe(value),
-            Kind::ResetTT => value == 0,
+            Kind::GetConfiguration | Kind::GetHubStatus | Kind::GetPortStatus | Kind::ResetTT =>
+                value == 0,
         }
     }
 
@@ -257,17 +225,15 @@ impl Kind {
         ensures { result ≡ index_fits ports.0 self index }
     {
         match self {
-            Kind::Unknown => false,
-            Kind::SetConfiguration => index == 0,
-            Kind::GetConfiguration => index == 0,
-            Kind::GetHubDescriptor => index == 0,
-            Kind::GetHubStatus => index == 0,
-            Kind::GetPortStatus => is_port(ports, index),
-            Kind::ClearHubFeature => index == 0,
-            Kind::ClearPortFeature => is_port(ports, index),
-            Kind::SetPortFeature => is_port(ports, index),
-            Kind::ClearTTBuffer => index == 1,
-            Kind::ResetTT => index == 1,
+            Kind::SetConfiguration
+            | Kind::GetConfiguration
+            | Kind::GetHubDescriptor
+            | Kind::GetHubStatus
+            | Kind::ClearHubFeature => index == 0,
+            Kind::GetPortStatus | Kind::ClearPortFeature | Kind::SetPortFeature => {
+                is_port(ports, index)
+            }
+            Kind::ClearTTBuffer | Kind::ResetTT => index == 1,
         }
     }
 
@@ -275,17 +241,15 @@ impl Kind {
         ensures { result ≡ length_fits self length }
     {
         match self {
-            Kind::Unknown => false,
-            Kind::SetConfiguration => length == 0,
-            Kind::GetConfiguration => length == 1,
             Kind::GetHubDescriptor => true,
-            Kind::GetHubStatus => length == 4,
-            Kind::GetPortStatus => length == 4,
-            Kind::ClearHubFeature => length == 0,
-            Kind::ClearPortFeature => length == 0,
-            Kind::SetPortFeature => length == 0,
-            Kind::ClearTTBuffer => length == 0,
-            Kind::ResetTT => length == 0,
+            Kind::GetConfiguration => length == 1,
+            Kind::GetHubStatus | Kind::GetPortStatus => length == 4,
+            Kind::SetConfiguration
+            | Kind::ClearHubFeature
+            | Kind::ClearPortFeature
+            | Kind::SetPortFeature
+            | Kind::ClearTTBuffer
+            | Kind::ResetTT => length == 0,
         }
     }
 
@@ -294,7 +258,6 @@ impl Kind {
         ensures { result ≡ meaning self value index length }
     {
         match self {
-            Kind::Unknown => Request::Wrong(Fault::TypeOrCode),
             Kind::SetConfiguration => Request::SetConfiguration(value == 1),
             Kind::GetConfiguration => Request::GetConfiguration,
             Kind::GetHubDescriptor => Request::GetHubDescriptor(length),
@@ -312,29 +275,23 @@ impl Kind {
     }
 }
 
-// What the setup bytes ask for; `ports` is N, the number of the hub's ports.
-pub fn read(setup: [u8; 8], ports: PortCount) -> Request
+// What the setup bytes ask for, or what is wrong first; `ports` is N, the number of the hub's ports.
+#[tactic(auto, unfolding(crate::specs::Request::checked, crate::specs::Request::request_of))]
+pub fn read(setup: [u8; 8], ports: PortCount) -> Result<Request, Fault>
     ensures { result ≡ request_of ports.0 setup }
 {
-    let s = setup_of(setup);
-    let kind = kind_of(s.requesttype, s.code);
-    if kind.is_known() {
-        if kind.value_fits(s.value) {
-            if kind.index_fits(ports, s.index) {
-                if kind.length_fits(s.length) {
-                    kind.meaning(s.value, s.index, s.length)
-                } else {
-                    Request::Wrong(Fault::Length)
-                }
-            } else {
-                Request::Wrong(Fault::Index)
-            }
-        } else {
-            Request::Wrong(Fault::Value)
-        }
-    } else {
-        Request::Wrong(Fault::TypeOrCode)
+    let s = Setup::from(setup);
+    let kind = kind_of(s.requesttype, s.code).ok_or(Fault::TypeOrCode)?;
+    if !kind.value_fits(s.value) {
+        return Err(Fault::Value);
     }
+    if !kind.index_fits(ports, s.index) {
+        return Err(Fault::Index);
+    }
+    if !kind.length_fits(s.length) {
+        return Err(Fault::Length);
+    }
+    Ok(kind.meaning(s.value, s.index, s.length))
 }
 
 // Pins the claims on every setup packet; the function does nothing.

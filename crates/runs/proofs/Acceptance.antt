@@ -2,7 +2,7 @@
 use Prim.Native.Nat.{ℕ, zero, suc, ◌<◌, ◌≤◌}
 use native.Mathlib.Omega.{arith}
 use mathlib.Core.Path.{◌≡◌, refl, sym, ◌∙◌, ap, subst}
-use mathlib.Core.Option.{Option, some}
+use Rattle.std.specs.Prelude.{Option, Some}
 use mathlib.Core.List.{List, ◌∷◌, map}
 use mathlib.Core.Bool.{Bool, true, false, not, ◌&&◌, ◌||◌, true≢false, false≢true, or-true, and-eq-true_iff}
 use borrow.Author.Tests.{eq-eqb, ne_eqb, eqb-true, eqb-false, not-true}
@@ -110,23 +110,23 @@ ranked-below bs i w =
 -- a pending buffer holds a start-split that the history calls pending
 pub record Stands (h : History) (b : Buffer) : Type 0 where
   pub place : ℕ
-  pub placed : last_stored h (key_in b.slot) ≡ some place
+  pub placed : last_stored h (key_in b.slot) ≡ Some place
   pub pending : is_pending_at h place ≡ true
-  pub asked : call_at h place ≡ some (call_of (split_in b.slot) (content b.payload))
+  pub asked : call_at h place ≡ Some (call_of (split_in b.slot) (content b.payload))
 
 -- a start-split that the history calls pending is in a pending buffer
 pub record Known (h : History) (bs : List Buffer) (s : ℕ) : Type 0 where
   pub spot : ℕ
   pub waits : Waits bs spot
-  pub placed : last_stored h (key_in (at bs spot).slot) ≡ some s
+  pub placed : last_stored h (key_in (at bs spot).slot) ≡ Some s
 
 pub record Queue (h : History) (bs : List Buffer) : Type 0 where
   pub stands : (i : ℕ) → Waits bs i → Stands h (at bs i)
   pub known : (s : ℕ) → is_pending_at h s ≡ true → Known h bs s
-  pub order : (i j s r : ℕ) → Waits bs i → Waits bs j → last_stored h (key_in (at bs i).slot) ≡ some s → last_stored h (key_in (at bs j).slot) ≡ some r
+  pub order : (i j s r : ℕ) → Waits bs i → Waits bs j → last_stored h (key_in (at bs i).slot) ≡ Some s → last_stored h (key_in (at bs j).slot) ≡ Some r
       → s < r → place_in (at bs i).slot < place_in (at bs j).slot
 
-call_kept : (h : History) (e : Event) (k : Key) (s : ℕ) (c : Call) → last_stored h k ≡ some s → call_at h s ≡ some c → call_at (e ∷ h) s ≡ some c
+call_kept : (h : History) (e : Event) (k : Key) (s : ℕ) (c : Call) → last_stored h k ≡ Some s → call_at h s ≡ Some c → call_at (e ∷ h) s ≡ Some c
 unfolding call_at
 call_kept h e k s c l f = rw (ne_eqb s (length h) (λ q. not_new h k l (sym q))) f
 
@@ -164,7 +164,7 @@ queue_ranked h bs queue =
           place = s.place;
           placed = ap (λ (x : StartSplit). last_stored h (key.key_of x)) (key-reranked bs (at bs i).slot) ∙ s.placed;
           pending = s.pending;
-          asked = s.asked ∙ ap (λ (x : StartSplit). some (call_of x (content (at bs i).payload))) (sym (key-reranked bs (at bs i).slot));
+          asked = s.asked ∙ ap (λ (x : StartSplit). Some (call_of x (content (at bs i).payload))) (sym (key-reranked bs (at bs i).slot));
         }
 
 -- ---- an event that changes no buffer, nor what is pending
@@ -196,8 +196,8 @@ module _ (h : History) (e : Event) (bs : List Buffer) (queue : Queue h bs) (same
     was : (j : ℕ) → Waits (set bs i b) j → at (set bs i b) j ≡ at bs j
     was j w = at_other bs i b here j (else j w)
 
-    pub queue_left : ((j s : ℕ) → ¬ (j ≡ i) → Waits bs j → last_stored h (key_in (at bs j).slot) ≡ some s → is_pending_at h s ≡ true → is_pending_at (e ∷ h) s ≡ true)
-        → ((s : ℕ) → is_pending_at (e ∷ h) s ≡ true → (is_pending_at h s ≡ true) × (Waits bs i → ¬ (last_stored h (key_in (at bs i).slot) ≡ some s)))
+    pub queue_left : ((j s : ℕ) → ¬ (j ≡ i) → Waits bs j → last_stored h (key_in (at bs j).slot) ≡ Some s → is_pending_at h s ≡ true → is_pending_at (e ∷ h) s ≡ true)
+        → ((s : ℕ) → is_pending_at (e ∷ h) s ≡ true → (is_pending_at h s ≡ true) × (Waits bs i → ¬ (last_stored h (key_in (at bs i).slot) ≡ Some s)))
         → Queue (e ∷ h) (set bs i b)
     queue_left stay only =
         record {
@@ -223,23 +223,23 @@ module _ (h : History) (e : Event) (bs : List Buffer) (queue : Queue h bs) (same
               asked = call_kept h e (key_in (at bs j).slot) s.place _ s.placed s.asked;
             }
 
-        knew : (s : ℕ) → (is_pending_at h s ≡ true) × (Waits bs i → ¬ (last_stored h (key_in (at bs i).slot) ≡ some s)) → Known (e ∷ h) (set bs i b) s
+        knew : (s : ℕ) → (is_pending_at h s ≡ true) × (Waits bs i → ¬ (last_stored h (key_in (at bs i).slot) ≡ Some s)) → Known (e ∷ h) (set bs i b) s
         knew s o =
             let k : Known h bs s = queue.known s o.0 in
             let ne : ¬ (k.spot ≡ i) = λ q.
-            o.1 (subst (λ (n : ℕ). Waits bs n) q k.waits) (subst (λ (n : ℕ). last_stored h (key_in (at bs n).slot) ≡ some s) q k.placed) in
+            o.1 (subst (λ (n : ℕ). Waits bs n) q k.waits) (subst (λ (n : ℕ). last_stored h (key_in (at bs n).slot) ≡ Some s) q k.placed) in
             record {
               spot = k.spot;
               waits = subst (λ (x : Buffer). is_pending x.slot ≡ true) (sym (at_other bs i b here k.spot ne)) k.waits;
-              placed = subst (λ (x : Buffer). last_stored (e ∷ h) (key_in x.slot) ≡ some s) (sym (at_other bs i b here k.spot ne))
+              placed = subst (λ (x : Buffer). last_stored (e ∷ h) (key_in x.slot) ≡ Some s) (sym (at_other bs i b here k.spot ne))
                   (same (key_in (at bs k.spot).slot) ∙ k.placed);
             }
 
     -- the start-split p, which buffer i holds under the key k, is no longer pending
-    pub queue_gone : (k : Key) → Apart (holds k) bs → holds k (at bs i).slot ≡ true → (p : ℕ) → last_stored h k ≡ some p
+    pub queue_gone : (k : Key) → Apart (holds k) bs → holds k (at bs i).slot ≡ true → (p : ℕ) → last_stored h k ≡ Some p
         → ((s : ℕ) → is_pending_at (e ∷ h) s ≡ (not (eqb p s) && is_pending_at h s)) → Queue (e ∷ h) (set bs i b)
     queue_gone k apart hd p placed gone = queue_left
-        (λ j s ne w l q. gone s ∙ rw (ne_eqb p s (λ u. ne (apart j i (mine j w (one_key h (key_in (at bs j).slot) k s l (placed ∙ ap some u))) hd)), q))
+        (λ j s ne w l q. gone s ∙ rw (ne_eqb p s (λ u. ne (apart j i (mine j w (one_key h (key_in (at bs j).slot) k s l (placed ∙ ap Some u))) hd)), q))
         (λ s q.
         let both = (and-eq-true_iff (not (eqb p s)) (is_pending_at h s)).0 (sym (gone s) ∙ q) in
         (both.1, λ w l. eqb-false p s (not-true (eqb p s) both.0) (some_inj (sym placed ∙ (ap (last_stored h) (sym (holds-key k (at bs i).slot hd)) ∙ l)))))
@@ -259,15 +259,15 @@ queue_into h e bs low inv queue s l i n q d says short here free only last =
       stands = λ j. at_cases bs i b here (λ (y : Buffer). is_pending y.slot ≡ true → Stands (e ∷ h) y) j (λ _ _. new) (old j);
       known = λ x p. knew x ((is_done e.answer && same_key k k) && not (is_open h k)) (eqb x (length h)) refl (is_pending_at h x) refl (rw q at p);
       order = λ j m x y.
-          at_cases bs i b here (λ (c : Buffer). is_pending c.slot ≡ true → Waits (set bs i b) m → last_stored (e ∷ h) (key_in c.slot) ≡ some x
-          → last_stored (e ∷ h) (key_in (at (set bs i b) m).slot) ≡ some y → x < y → place_in c.slot < place_in (at (set bs i b) m).slot) j
-          (λ _ _. at_cases bs i b here (λ (z : Buffer). is_pending z.slot ≡ true → last_stored (e ∷ h) k ≡ some x
-          → last_stored (e ∷ h) (key_in z.slot) ≡ some y → x < y → n < place_in z.slot) m
+          at_cases bs i b here (λ (c : Buffer). is_pending c.slot ≡ true → Waits (set bs i b) m → last_stored (e ∷ h) (key_in c.slot) ≡ Some x
+          → last_stored (e ∷ h) (key_in (at (set bs i b) m).slot) ≡ Some y → x < y → place_in c.slot < place_in (at (set bs i b) m).slot) j
+          (λ _ _. at_cases bs i b here (λ (z : Buffer). is_pending z.slot ≡ true → last_stored (e ∷ h) k ≡ Some x
+          → last_stored (e ∷ h) (key_in z.slot) ≡ Some y → x < y → n < place_in z.slot) m
           (λ _ _ f g lt. absurd (let u : x ≡ y = some_inj (sym f ∙ g) in omega (arith, u, lt)))
           (λ ne w f g lt. absurd (let u : x ≡ length h = some_inj (sym f ∙ placed) in
           let z : y < length h = below (key_in (at bs m).slot) y (sym (kept m ne w) ∙ g) in omega (arith, u, z, lt))))
-          (λ nj wj. at_cases bs i b here (λ (z : Buffer). is_pending z.slot ≡ true → last_stored (e ∷ h) (key_in (at bs j).slot) ≡ some x
-          → last_stored (e ∷ h) (key_in z.slot) ≡ some y → x < y → place_in (at bs j).slot < place_in z.slot) m
+          (λ nj wj. at_cases bs i b here (λ (z : Buffer). is_pending z.slot ≡ true → last_stored (e ∷ h) (key_in (at bs j).slot) ≡ Some x
+          → last_stored (e ∷ h) (key_in z.slot) ≡ Some y → x < y → place_in (at bs j).slot < place_in z.slot) m
           (λ _ _ f g lt. last j wj)
           (λ nl wl f g lt. queue.order j m x y wj wl (sym (kept j nj wj) ∙ f) (sym (kept m nl wl) ∙ g) lt));
     }
@@ -285,7 +285,7 @@ queue_into h e bs low inv queue s l i n q d says short here free only last =
         no_hold j ne true w = absurd (ne (only j w))
         no_hold j ne false w = refl
 
-    placed : last_stored (e ∷ h) (key.key_of s) ≡ some (length h)
+    placed : last_stored (e ∷ h) (key.key_of s) ≡ Some (length h)
     placed = start_stores h e (key.key_of s) q d was_closed
 
     kept : (j : ℕ) → ¬ (j ≡ i) → Waits bs j → last_stored (e ∷ h) (key_in (at bs j).slot) ≡ last_stored h (key_in (at bs j).slot)
@@ -293,7 +293,7 @@ queue_into h e bs low inv queue s l i n q d says short here free only last =
         (keeps_start h e (key.key_of s) q d).stored_kept (key_in (at bs j).slot)
         (λ u. ne (only j (ap (λ (x : Key). holds x (at bs j).slot) u ∙ waits_holds (at bs j).slot w)))
 
-    below : (x : Key) (y : ℕ) → last_stored h x ≡ some y → y < length h
+    below : (x : Key) (y : ℕ) → last_stored h x ≡ Some y → y < length h
     below x y f = subst (λ (o : Option ℕ). Below o (length h)) f (stored-below h x)
 
     new : Stands (e ∷ h) b
@@ -302,7 +302,7 @@ queue_into h e bs low inv queue s l i n q d says short here free only last =
           place = length h;
           placed = placed;
           pending = rw (q, d, same_refl (key.key_of s), was_closed, eq-eqb (length h) (length h) refl);
-          asked = rw (eq-eqb (length h) (length h) refl, content_of l short) (ap some says);
+          asked = rw (eq-eqb (length h) (length h) refl, content_of l short) (ap Some says);
         }
 
     old : (j : ℕ) → ¬ (j ≡ i) → Waits bs j → Stands (e ∷ h) (at bs j)
@@ -322,7 +322,7 @@ queue_into h e bs low inv queue s l i n q d says short here free only last =
         record {
           spot = a.spot;
           waits = subst (λ (y : Buffer). is_pending y.slot ≡ true) (sym (at_other bs i b here a.spot ne)) a.waits;
-          placed = subst (λ (y : Buffer). last_stored (e ∷ h) (key_in y.slot) ≡ some x) (sym (at_other bs i b here a.spot ne)) (kept a.spot ne a.waits ∙ a.placed);
+          placed = subst (λ (y : Buffer). last_stored (e ∷ h) (key_in y.slot) ≡ Some x) (sym (at_other bs i b here a.spot ne)) (kept a.spot ne a.waits ∙ a.placed);
         }
       where
         busy : (z : Slot) → is_pending z ≡ true → is_free z ≡ true → ⊥
@@ -334,7 +334,7 @@ queue_into h e bs low inv queue s l i n q d says short here free only last =
         record {
           spot = i;
           waits = subst (λ (y : Buffer). is_pending y.slot ≡ true) (sym (at_same bs i b here)) refl;
-          placed = subst (λ (y : Buffer). last_stored (e ∷ h) (key_in y.slot) ≡ some x) (sym (at_same bs i b here)) (placed ∙ ap some (sym (eqb-true x (length h) f)));
+          placed = subst (λ (y : Buffer). last_stored (e ∷ h) (key_in y.slot) ≡ Some x) (sym (at_same bs i b here)) (placed ∙ ap Some (sym (eqb-true x (length h) f)));
         }
     knew x true false f false g p = absurd (false≢true p)
     knew x false v f false g p = absurd (false≢true p)

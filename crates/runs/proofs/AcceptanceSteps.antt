@@ -2,7 +2,6 @@
 use Prim.Native.Nat.{ℕ, ◌<◌, ◌≤◌}
 use native.Mathlib.Omega.{arith}
 use mathlib.Core.Path.{◌≡◌, refl, sym, ◌∙◌, ap, subst}
-use mathlib.Core.Option.{Option, none, some}
 use mathlib.Core.List.{List, [], ◌∷◌}
 use mathlib.Core.Bool.{Bool, true, false, cond, not, ◌&&◌, ◌||◌, and-eq-true_iff, true≢false, and-false}
 use borrow.Author.Tests.{ne_eqb, eqb-false, ltb-true, ltb-false}
@@ -28,25 +27,22 @@ use Rattle.buffer.specs.Same.{same_key}
 use Rattle.buffer.specs.Lengths.{start_fits, result_length, suits}
 use Rattle.buffer.specs.Buffer.{vacant, is_pending, is_active, is_free, holds}
 use Rattle.buffer.proofs.Keys.{same_refl}
+use Rattle.translator.specs.declared.NotLaunched.{NotLaunched}
 use Rattle.translator.specs.declared.Translator.{Translator}
 use Rattle.translator.specs.declared.LowSide.{LowSide}
 use Rattle.translator.specs.declared.LowSide.TheVariants.{Idle, Running, Abandoned}
-use Rattle.translator.specs.declared.Found.{Found}
-use Rattle.translator.specs.declared.Found.TheVariants.{Nowhere, At}
 use Rattle.translator.specs.declared.Choice.{Choice}
 use Rattle.translator.specs.declared.Choice.TheVariants.{NoRoom, LimitReached, Held, Reused, Took}
-use Rattle.translator.specs.declared.StartAnswer.TheVariants as start
-use Rattle.translator.specs.declared.DeliverAnswer.TheVariants as deliver
+use Rattle.translator.specs.declared.NotDelivered.TheVariants as deliver
 use Rattle.translator.specs.declared.Started.{Started}
 use Rattle.translator.specs.declared.Delivered.{Delivered}
-use Rattle.translator.specs.declared.LaunchAnswer.{LaunchAnswer}
-use Rattle.translator.specs.declared.LaunchAnswer.TheVariants.{NothingPending, Occupied, Launches}
+use Rattle.translator.specs.declared.NotLaunched.TheVariants.{NothingPending, Occupied}
 use Rattle.translator.specs.Translator.{at, emptied}
 use Rattle.translator.specs.Search.{find}
 use Rattle.translator.specs.Limit.{permitted}
 use Rattle.translator.specs.ResetLane.{reset_lane}
 use Rattle.translator.specs.Order.{waiting, ranked}
-use Rattle.translator.specs.StartSplit.{stored, start_by, start_split}
+use Rattle.translator.specs.StartSplit.{stored, start_by, start_split, outside}
 use Rattle.translator.specs.CompleteSplit.{completed, complete_at, complete_split}
 use Rattle.translator.specs.Launch.{launch}
 use Rattle.translator.specs.Deliver as delivering
@@ -61,8 +57,10 @@ use Rattle.numbers.specs.Named.{lane_from, is_result, result_from}
 use Rattle.numbers.specs.Split.{split_named, split_from, key_from}
 use Rattle.numbers.specs.Claims.{SplitHas}
 use Rattle.numbers.proofs.Laws.{numbers_claims_lem}
+use Rattle.std.specs.Prelude.{Result, Ok, Err, Option, None, Some}
+use Rattle.request.specs.declared.Fault.{Fault}
 use Rattle.request.specs.declared.Request.{Request}
-use Rattle.request.specs.declared.Request.TheVariants.{Wrong, SetConfiguration, GetConfiguration, GetHubDescriptor, GetHubStatus, GetPortStatus, ClearHubFeature, ClearPortFeature, SetPortFeature, ClearTTBuffer, ResetTT}
+use Rattle.request.specs.declared.Request.TheVariants.{SetConfiguration, GetConfiguration, GetHubDescriptor, GetHubStatus, GetPortStatus, ClearHubFeature, ClearPortFeature, SetPortFeature, ClearTTBuffer, ResetTT}
 use Rattle.request.specs.Request.{request_of}
 use Rattle.hub.specs.declared.Hub.{Hub}
 use Rattle.hub.specs.Hub.{with_ports, with_translator, configured_as, reset_hub, ticked_hub}
@@ -178,7 +176,7 @@ module _ (h : History) (t : Translator) (tied : Tied h t) (queue : Queue h t.buf
       → Queued h c (start_split t s l).next.buffers (plain_answer (start_number (start_split t s l).answer))
   unfolding start_split
   start_queue c s l q says f = (
-    subst (λ (x : Bool). Queue (ev c (plain_answer (start_number (cond x by_choice outside).answer)) ∷ h) (cond x by_choice outside).next.buffers) (sym f)
+    subst (λ (x : Bool). Queue (ev c (plain_answer (start_number (cond x by_choice unstarted).answer)) ∷ h) (cond x by_choice unstarted).next.buffers) (sym f)
         (start_by_lem c s l q says (start_le s (length l) f) (permitted t.count (key.key_of s) (take t.count t.buffers)) (permitted_says t.count (key.key_of s) t.count t.buffers)),
     subst (λ (x : Asks). InOrder x (plain_answer (start_number (start_split t s l).answer)) h) (sym q) tt,
   )
@@ -186,8 +184,8 @@ module _ (h : History) (t : Translator) (tied : Tied h t) (queue : Queue h t.buf
       by_choice : Started
       by_choice = start_by t s l (permitted t.count (key.key_of s) (take t.count t.buffers))
 
-      outside : Started
-      outside = record { next = t; answer = start.Outside }
+      unstarted : Started
+      unstarted = record { next = t; answer = Err outside }
 
   -- ---- complete-split
 
@@ -207,9 +205,9 @@ module _ (h : History) (t : Translator) (tied : Tied h t) (queue : Queue h t.buf
           queue_left h (ev c a) t.buffers queue (complete_stores h (ev c a) k q) n.0 (record { slot = Old s x; payload = (at t.buffers n.0).payload }) here refl
           (λ j y ne w l p. rw q p) (λ y p. ((rw q at p), λ w. absurd (true≢false (sym w ∙ ap is_pending e))))
 
-      go : (f : Found) → FindSays (holds k) t.count t.buffers f → Queue (ev c a ∷ h) (complete_at t f).next.buffers
-      go Nowhere r = same_stored c a k q
-      go (At n) r = slot n r.inside (at t.buffers n.0).slot refl
+      go : (f : Option BufferNumber) → FindSays (holds k) t.count t.buffers f → Queue (ev c a ∷ h) (complete_at t f).next.buffers
+      go None r = same_stored c a k q
+      go (Some n) r = slot n r.inside (at t.buffers n.0).slot refl
 
   -- ---- launch
 
@@ -226,23 +224,23 @@ module _ (h : History) (t : Translator) (tied : Tied h t) (queue : Queue h t.buf
       order_of : (a : Answer) → InOrder launches a h → InOrder (asks c) a h
       order_of a o = subst (λ (x : Asks). InOrder x a h) (sym q) o
 
-      refused : (a : LaunchAnswer) → (launch t).answer ≡ a → is_refusal (launch_number a) ≡ true → (launch t).next.buffers ≡ t.buffers
-      refused a e r = ap (λ (u : Translator). u.buffers) (refused_same.launched t (ap (λ (x : LaunchAnswer). is_refusal (launch_number x)) e ∙ r))
+      refused : (a : Result StartSplit NotLaunched) → (launch t).answer ≡ a → is_refusal (launch_number a) ≡ true → (launch t).next.buffers ≡ t.buffers
+      refused a e r = ap (λ (u : Translator). u.buffers) (refused_same.launched t (ap (λ (x : Result StartSplit NotLaunched). is_refusal (launch_number x)) e ∙ r))
 
-      go : (a : LaunchAnswer) → (launch t).answer ≡ a → LaunchedAs t a (launch t) → Queued h c (launch t).next.buffers (launched_by hub a p).answer
-      go NothingPending e r = (
-        subst (Queue (ev c (plain_answer 3) ∷ h)) (sym (refused NothingPending e refl)) (launch_quiet c (plain_answer 3) q),
+      go : (a : Result StartSplit NotLaunched) → (launch t).answer ≡ a → LaunchedAs t a (launch t) → Queued h c (launch t).next.buffers (launched_by hub a p).answer
+      go (Err NothingPending) e r = (
+        subst (Queue (ev c (plain_answer 3) ∷ h)) (sym (refused (Err NothingPending) e refl)) (launch_quiet c (plain_answer 3) q),
         order_of (plain_answer 3) (λ y. absurd (omega (arith, y)), λ _ s. not_pending s (is_pending_at h s) refl),
       )
         where
           not_pending : (s : ℕ) (x : Bool) → is_pending_at h s ≡ x → x ≡ false
           not_pending s false y = refl
           not_pending s true y = absurd (true≢false (sym (queue.known s y).waits ∙ r (queue.known s y).spot))
-      go Occupied e r = (
-        subst (Queue (ev c (plain_answer 8) ∷ h)) (sym (refused Occupied e refl)) (launch_quiet c (plain_answer 8) q),
+      go (Err Occupied) e r = (
+        subst (Queue (ev c (plain_answer 8) ∷ h)) (sym (refused (Err Occupied) e refl)) (launch_quiet c (plain_answer 8) q),
         order_of (plain_answer 8) (λ y. absurd (omega (arith, y)), λ y. absurd (omega (arith, y))),
       )
-      go (Launches s) e g = (
+      go (Ok s) e g = (
         subst (Queue (ev c a ∷ h)) (sym (ap (λ (u : Translator). u.buffers) g.next)) (launch_quiet c a q),
         order_of a (λ _. record { place = x.place; pending = x.pending; earliest = first; gives = x.asked ∙ is; directed = directed s.pid }, λ y. absurd (omega (arith, y))),
       )
@@ -259,7 +257,7 @@ module _ (h : History) (t : Translator) (tied : Tied h t) (queue : Queue h t.buf
           x : Stands h (at t.buffers g.number.0)
           x = queue.stands g.number.0 (ap is_pending g.pending)
 
-          is : some (call_of (split_in (at t.buffers g.number.0).slot) (content (at t.buffers g.number.0).payload)) ≡ some (call_of s (content p))
+          is : Some (call_of (split_in (at t.buffers g.number.0).slot) (content (at t.buffers g.number.0).payload)) ≡ Some (call_of s (content p))
           is = rw (g.pending, g.payload)
 
           first : (n : ℕ) → is_pending_at h n ≡ true → x.place ≤ n
@@ -310,7 +308,7 @@ module _ (h : History) (t : Translator) (tied : Tied h t) (queue : Queue h t.buf
           b = record { slot = Ready s r; payload = payload_of l }
 
           now : Delivered
-          now = record { next = record { buffers = set t.buffers n.0 b; count = t.count; low = Idle }; answer = deliver.Done }
+          now = record { next = record { buffers = set t.buffers n.0 b; count = t.count; low = Idle }; answer = Ok tt }
 
           holding : holds (key.key_of s) (at t.buffers n.0).slot ≡ true
           holding = ap (holds (key.key_of s)) is ∙ same_refl (key.key_of s)
@@ -327,16 +325,16 @@ module _ (h : History) (t : Translator) (tied : Tied h t) (queue : Queue h t.buf
       -- what was launched is not pending any more
       thrown : LowOk h t.buffers Abandoned → (s : ℕ) (y : Bool) → is_pending_at h s ≡ y → (o : Option For) → last_for h ≡ o → (not (is_for o s) && y) ≡ y
       thrown w s false z o v = and-false (not (is_for o s))
-      thrown w s true z none v = refl
-      thrown w s true z (some m) v = by m.place refl
+      thrown w s true z None v = refl
+      thrown w s true z (Some m) v = by m.place refl
         where
           k : Known h t.buffers s
           k = queue.known s z
 
           by : (o : Option ℕ) → m.place ≡ o → (not (is_at o s) && true) ≡ true
-          by none u = refl
-          by (some n) u =
-              rw (ne_eqb n s (λ i. w m v k.spot (key_in (at t.buffers k.spot).slot) (waits_holds (at t.buffers k.spot).slot k.waits) (u ∙ ap some i ∙ sym k.placed)))
+          by None u = refl
+          by (Some n) u =
+              rw (ne_eqb n s (λ i. w m v k.spot (key_in (at t.buffers k.spot).slot) (waits_holds (at t.buffers k.spot).slot k.waits) (u ∙ ap Some i ∙ sym k.placed)))
 
       by_low : (x : LowSide) → LowOk h t.buffers x → Said (delivering.deliver_by t r l x)
       by_low Idle w = no
@@ -355,26 +353,26 @@ module _ (h : History) (t : Translator) (tied : Tied h t) (queue : Queue h t.buf
       stored_same : (x : Key) → last_stored (ev c (plain_answer 0) ∷ h) x ≡ last_stored h x
       stored_same x = rw q
 
-      go : (f : Found) → FindSays (holds k) t.count t.buffers f → Queue (ev c (plain_answer 0) ∷ h) (clear_at t f).buffers
-      go (At n) r =
+      go : (f : Option BufferNumber) → FindSays (holds k) t.count t.buffers f → Queue (ev c (plain_answer 0) ∷ h) (clear_at t f).buffers
+      go (Some n) r =
           queue_gone h e t.buffers queue stored_same n.0 vacant r.inside refl k (tied.valid.keys k) r.passes g.place g.placed
           (λ s. rw q (ap (λ (o : Option ℕ). not (is_at o s) && is_pending_at h s) g.placed))
         where
           g : Good h k (at t.buffers n.0)
           g = tied.inv.good n.0 k r.passes
-      go Nowhere u = queue_quiet h e t.buffers queue stored_same (λ s. rw q (still s (is_pending_at h s) refl (last_stored h k) refl))
+      go None u = queue_quiet h e t.buffers queue stored_same (λ s. rw q (still s (is_pending_at h s) refl (last_stored h k) refl))
         where
           still : (s : ℕ) (y : Bool) → is_pending_at h s ≡ y → (o : Option ℕ) → last_stored h k ≡ o → (not (is_at o s) && y) ≡ y
           still s false z o v = and-false (not (is_at o s))
-          still s true z none v = refl
-          still s true z (some n) v = rw (ne_eqb n s (λ w. true≢false (sym (held w) ∙ u p.spot (in_use t tied.valid (holds k) refl p.spot (held w)) (inside (holds k) refl t.buffers p.spot (held w)))))
+          still s true z None v = refl
+          still s true z (Some n) v = rw (ne_eqb n s (λ w. true≢false (sym (held w) ∙ u p.spot (in_use t tied.valid (holds k) refl p.spot (held w)) (inside (holds k) refl t.buffers p.spot (held w)))))
             where
               p : Known h t.buffers s
               p = queue.known s z
 
               held : n ≡ s → holds k (at t.buffers p.spot).slot ≡ true
               held w =
-                  ap (λ (x : Key). holds x (at t.buffers p.spot).slot) (sym (one_key h (key_in (at t.buffers p.spot).slot) k s p.placed (v ∙ ap some w)))
+                  ap (λ (x : Key). holds x (at t.buffers p.spot).slot) (sym (one_key h (key_in (at t.buffers p.spot).slot) k s p.placed (v ∙ ap Some w)))
                   ∙ waits_holds (at t.buffers p.spot).slot p.waits
 
   reset_queue : (c : Call) (z : Lane) → asks c ≡ resets z → Queued h c (reset_lane t z).buffers (plain_answer 0)
@@ -403,25 +401,25 @@ module _ (h : History) (hub : Hub) (tied : Tied h hub.translator) (queue : Queue
   none_of : (n : ℕ) → eqb n 0 ≡ false → eqb n 1 ≡ false → eqb n 9 ≡ false → Refused (plain_answer n)
   none_of n a b c = record { not_0 = a; not_1 = b; not_9 = c }
 
-  by_request_lem : (c : Call) (y : Lane) (r : Request) → AsksFor y r (asks c) → QueuedBy c (by_request hub y r)
+  by_request_lem : (c : Call) (y : Lane) (r : Result Request Fault) → AsksFor y r (asks c) → QueuedBy c (by_request hub y r)
   unfolding configured_as
-  by_request_lem c y (Wrong f) q = refusal c 2 (none_of 2 refl refl refl) refl
-  by_request_lem c y (SetConfiguration on) q = empty_queue h hub.translator tied queue c q
-  by_request_lem c y GetConfiguration q = nothing_queue h hub.translator tied queue c _ q
-  by_request_lem c y (GetHubDescriptor n) q = nothing_queue h hub.translator tied queue c _ q
-  by_request_lem c y GetHubStatus q = nothing_queue h hub.translator tied queue c _ q
-  by_request_lem c y (GetPortStatus n) q = nothing_queue h hub.translator tied queue c _ q
-  by_request_lem c y ClearHubFeature q = nothing_queue h hub.translator tied queue c _ q
-  by_request_lem c y (ClearPortFeature n f) q = nothing_queue h hub.translator tied queue c _ q
-  by_request_lem c y (SetPortFeature n f) q = nothing_queue h hub.translator tied queue c _ q
-  by_request_lem c y (ClearTTBuffer k) q = clear_queue h hub.translator tied queue c (keyed y k) q
-  by_request_lem c y ResetTT q = reset_queue h hub.translator tied queue c y q
+  by_request_lem c y (Err f) q = refusal c 2 (none_of 2 refl refl refl) refl
+  by_request_lem c y (Ok (SetConfiguration on)) q = empty_queue h hub.translator tied queue c q
+  by_request_lem c y (Ok GetConfiguration) q = nothing_queue h hub.translator tied queue c _ q
+  by_request_lem c y (Ok (GetHubDescriptor n)) q = nothing_queue h hub.translator tied queue c _ q
+  by_request_lem c y (Ok GetHubStatus) q = nothing_queue h hub.translator tied queue c _ q
+  by_request_lem c y (Ok (GetPortStatus n)) q = nothing_queue h hub.translator tied queue c _ q
+  by_request_lem c y (Ok ClearHubFeature) q = nothing_queue h hub.translator tied queue c _ q
+  by_request_lem c y (Ok (ClearPortFeature n f)) q = nothing_queue h hub.translator tied queue c _ q
+  by_request_lem c y (Ok (SetPortFeature n f)) q = nothing_queue h hub.translator tied queue c _ q
+  by_request_lem c y (Ok (ClearTTBuffer k)) q = clear_queue h hub.translator tied queue c (keyed y k) q
+  by_request_lem c y (Ok ResetTT) q = reset_queue h hub.translator tied queue c y q
 
   control : (z : ℕ) (s : List ℕ) (room : ℕ) → QueuedBy (Control z s room) (requested hub (lane_from z) (request_of hub.identity.ports s))
   unfolding requested
   control z s room = go (hub.configured || served_always r)
     where
-      r : Request
+      r : Result Request Fault
       r = request_of hub.identity.ports s
 
       go : (x : Bool) → QueuedBy (Control z s room) (cond x (by_request hub (lane_from z) r) (refuse 2 hub))

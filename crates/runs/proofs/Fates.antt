@@ -2,7 +2,6 @@
 use Prim.Native.Nat.{ℕ, ◌≤◌}
 use native.Mathlib.Omega.{arith}
 use mathlib.Core.Path.{◌≡◌, refl, sym, ◌∙◌, ap}
-use mathlib.Core.Option.{Option, none, some}
 use mathlib.Core.List.{[], ◌∷◌}
 use mathlib.Core.Bool.{Bool, true, false, cond, not, ◌&&◌, ◌||◌, and-eq-true_iff, false≢true, true≢false, and-false, or-true}
 use borrow.Author.Tests.{eq-eqb, ne_eqb, eqb-true}
@@ -14,6 +13,7 @@ use Rattle.buffer.specs.Same.{same_key}
 use Rattle.buffer.specs.Key.{same_lane}
 use Rattle.buffer.proofs.Keys.{same_true, same_refl, same_eq}
 use Rattle.numbers.specs.Named.{lane_from}
+use Rattle.std.specs.Prelude.{Some, None, Option}
 use Rattle.request.specs.declared.Kind.{Kind}
 use Rattle.request.specs.declared.Kind.TheVariants as kind
 use Rattle.request.specs.Setup.{setup_of}
@@ -24,11 +24,11 @@ use Rattle.runs.specs.Order.{call_at, is_from}
 use Rattle.runs.specs.Tally.{stores_it, answers_it, empties_it, is_stored_at, is_answered_at, is_emptied_at}
 use Rattle.runs.proofs.Histories.{Below, stored-below, not_new, some_inj, one_key}
 
-pub is_at_lem : (o : Option ℕ) (s : ℕ) → is_at o s ≡ true → o ≡ some s
-is_at_lem none s e = absurd (false≢true e)
-is_at_lem (some n) s e = ap some (eqb-true n s e)
+pub is_at_lem : (o : Option ℕ) (s : ℕ) → is_at o s ≡ true → o ≡ Some s
+is_at_lem None s e = absurd (false≢true e)
+is_at_lem (Some n) s e = ap Some (eqb-true n s e)
 
-pub at_is : (o : Option ℕ) (s : ℕ) → o ≡ some s → is_at o s ≡ true
+pub at_is : (o : Option ℕ) (s : ℕ) → o ≡ Some s → is_at o s ≡ true
 at_is o s e = ap (λ (x : Option ℕ). is_at x s) e ∙ eq-eqb s s refl
 
 -- ---- what waits was stored, and neither answered nor emptied
@@ -53,8 +53,8 @@ at_late : (h : History) (k : Key) (s : ℕ) → length h ≤ s → is_at (last_s
 at_late h k s l = go (last_stored h k) (stored-below h k)
   where
     go : (o : Option ℕ) → Below o (length h) → is_at o s ≡ false
-    go none b = refl
-    go (some n) b = ne_eqb n s (λ e. omega (arith, e, b, l))
+    go None b = refl
+    go (Some n) b = ne_eqb n s (λ e. omega (arith, e, b, l))
 
 pub late_stored : (h : History) (s : ℕ) → length h ≤ s → is_stored_at h s ≡ false
 unfolding is_stored_at stores_it
@@ -104,20 +104,20 @@ lane_or z (clears k) b = b
 lane_or z (resets y) b = b
 lane_or z empties b = b
 
-request_lane : (z y : Lane) (x : Kind) (v : ℕ) → false ≡ lane_or z (request_asks y x v) false
-request_lane z y kind.Unknown v = refl
-request_lane z y kind.SetConfiguration v = refl
-request_lane z y kind.GetConfiguration v = refl
-request_lane z y kind.GetHubDescriptor v = refl
-request_lane z y kind.GetHubStatus v = refl
-request_lane z y kind.GetPortStatus v = refl
-request_lane z y kind.ClearHubFeature v = refl
-request_lane z y kind.ClearPortFeature v = refl
-request_lane z y kind.SetPortFeature v = refl
-request_lane z y kind.ClearTTBuffer v = refl
-request_lane z y kind.ResetTT v = refl
+request_lane : (z y : Lane) (x : Option Kind) (v : ℕ) → false ≡ lane_or z (request_asks y x v) false
+request_lane z y None v = refl
+request_lane z y (Some kind.SetConfiguration) v = refl
+request_lane z y (Some kind.GetConfiguration) v = refl
+request_lane z y (Some kind.GetHubDescriptor) v = refl
+request_lane z y (Some kind.GetHubStatus) v = refl
+request_lane z y (Some kind.GetPortStatus) v = refl
+request_lane z y (Some kind.ClearHubFeature) v = refl
+request_lane z y (Some kind.ClearPortFeature) v = refl
+request_lane z y (Some kind.SetPortFeature) v = refl
+request_lane z y (Some kind.ClearTTBuffer) v = refl
+request_lane z y (Some kind.ResetTT) v = refl
 
-call_lane : (z : Lane) (c : Call) → is_from z (some c) ≡ lane_or z (asks c) false
+call_lane : (z : Lane) (c : Call) → is_from z (Some c) ≡ lane_or z (asks c) false
 unfolding asks
 call_lane z (Control y s room) = request_lane z (lane_from y) (kind_of (setup_of s).requesttype (setup_of s).code) (setup_of s).value
 call_lane z (Poll y room) = refl
@@ -129,23 +129,23 @@ call_lane z (Line e n) = refl
 call_lane z Tick = refl
 call_lane z BusReset = refl
 
-pub stored_lane : (h : History) (z : Lane) (k : Key) (s : ℕ) → last_stored h k ≡ some s → is_from z (call_at h s) ≡ same_lane k.lane z
+pub stored_lane : (h : History) (z : Lane) (k : Key) (s : ℕ) → last_stored h k ≡ Some s → is_from z (call_at h s) ≡ same_lane k.lane z
 unfolding last_stored call_at stores
 stored_lane [] z k s l = let x : ◌≡◌ {A = ℕ} 0 1 = cc in absurd (omega (arith, x))
 stored_lane (e ∷ h) z k s l = go (asks e.call) refl l (stored_lane h z k s)
   where
-    before : last_stored h k ≡ some s → (last_stored h k ≡ some s → is_from z (call_at h s) ≡ same_lane k.lane z)
-        → is_from z (cond (eqb s (length h)) (some e.call) (call_at h s)) ≡ same_lane k.lane z
+    before : last_stored h k ≡ Some s → (last_stored h k ≡ Some s → is_from z (call_at h s) ≡ same_lane k.lane z)
+        → is_from z (cond (eqb s (length h)) (Some e.call) (call_at h s)) ≡ same_lane k.lane z
     before l ih = rw (ne_eqb s (length h) (λ q. not_new h k l (sym q))) (ih l)
 
-    go : (x : Asks) → asks e.call ≡ x → cond (stores x e.answer k (is_open h k)) (some (length h)) (last_stored h k) ≡ some s
-        → (last_stored h k ≡ some s → is_from z (call_at h s) ≡ same_lane k.lane z)
-        → is_from z (cond (eqb s (length h)) (some e.call) (call_at h s)) ≡ same_lane k.lane z
+    go : (x : Asks) → asks e.call ≡ x → cond (stores x e.answer k (is_open h k)) (Some (length h)) (last_stored h k) ≡ Some s
+        → (last_stored h k ≡ Some s → is_from z (call_at h s) ≡ same_lane k.lane z)
+        → is_from z (cond (eqb s (length h)) (Some e.call) (call_at h s)) ≡ same_lane k.lane z
     go nothing q l ih = before l ih
     go (starts k') q l ih = by ((is_done e.answer && same_key k' k) && not (is_open h k)) refl l
       where
-        by : (t : Bool) → ((is_done e.answer && same_key k' k) && not (is_open h k)) ≡ t → cond t (some (length h)) (last_stored h k) ≡ some s
-            → is_from z (cond (eqb s (length h)) (some e.call) (call_at h s)) ≡ same_lane k.lane z
+        by : (t : Bool) → ((is_done e.answer && same_key k' k) && not (is_open h k)) ≡ t → cond t (Some (length h)) (last_stored h k) ≡ Some s
+            → is_from z (cond (eqb s (length h)) (Some e.call) (call_at h s)) ≡ same_lane k.lane z
         by false p l = before l ih
         by true p l =
             let two = (and-eq-true_iff (is_done e.answer && same_key k' k) (not (is_open h k))).0 p in
@@ -165,13 +165,13 @@ still_waits : (st an em t u v : Bool) → Waiting st an em → u ≡ false → v
 still_waits st an em t u v w p q =
     record { was_stored = rw w.was_stored (or-true t); not_answered = rw p w.not_answered; not_emptied = rw q w.not_emptied }
 
-pub open_waits : (h : History) (k : Key) (s : ℕ) → is_open h k ≡ true → last_stored h k ≡ some s → Waiting (is_stored_at h s) (is_answered_at h s) (is_emptied_at h s)
+pub open_waits : (h : History) (k : Key) (s : ℕ) → is_open h k ≡ true → last_stored h k ≡ Some s → Waiting (is_stored_at h s) (is_answered_at h s) (is_emptied_at h s)
 unfolding is_open last_stored open_after stores is_stored_at is_answered_at is_emptied_at stores_it answers_it empties_it
 open_waits [] k s o l = absurd (false≢true o)
 open_waits (e ∷ h) k s o l = go (asks e.call) o l (open_waits h k s)
   where
     -- a call that closes another key's start-split
-    other : (d : Bool) (k' : Key) → (d && same_key k' k) ≡ false → last_stored h k ≡ some s → (d && is_at (last_stored h k') s) ≡ false
+    other : (d : Bool) (k' : Key) → (d && same_key k' k) ≡ false → last_stored h k ≡ Some s → (d && is_at (last_stored h k') s) ≡ false
     other false k' n q = refl
     other true k' n q = by (is_at (last_stored h k') s) refl
       where
@@ -179,8 +179,8 @@ open_waits (e ∷ h) k s o l = go (asks e.call) o l (open_waits h k s)
         by true y = absurd (true≢false (sym (same_eq k' k (one_key h k' k s (is_at_lem (last_stored h k') s y) q)) ∙ n))
         by false y = refl
 
-    go : (x : Asks) → open_after x e.answer k (is_open h k) ≡ true → cond (stores x e.answer k (is_open h k)) (some (length h)) (last_stored h k) ≡ some s
-        → (is_open h k ≡ true → last_stored h k ≡ some s → Waiting (is_stored_at h s) (is_answered_at h s) (is_emptied_at h s))
+    go : (x : Asks) → open_after x e.answer k (is_open h k) ≡ true → cond (stores x e.answer k (is_open h k)) (Some (length h)) (last_stored h k) ≡ Some s
+        → (is_open h k ≡ true → last_stored h k ≡ Some s → Waiting (is_stored_at h s) (is_answered_at h s) (is_emptied_at h s))
         → Waiting (stores_it x e.answer h s || is_stored_at h s) (answers_it x e.answer h s || is_answered_at h s)
         ((empties_it x e.answer h s && (is_stored_at h s && not (is_answered_at h s))) || is_emptied_at h s)
     go nothing o l ih = ih o l
@@ -188,11 +188,11 @@ open_waits (e ∷ h) k s o l = go (asks e.call) o l (open_waits h k s)
     go (delivers r y) o l ih = ih o l
     go (starts k') o l ih = by (is_open h k) refl (is_done e.answer && same_key k' k) refl o l
       where
-        by : (w : Bool) → is_open h k ≡ w → (d : Bool) → (is_done e.answer && same_key k' k) ≡ d → (d || w) ≡ true → cond (d && not w) (some (length h)) (last_stored h k) ≡ some s
+        by : (w : Bool) → is_open h k ≡ w → (d : Bool) → (is_done e.answer && same_key k' k) ≡ d → (d || w) ≡ true → cond (d && not w) (Some (length h)) (last_stored h k) ≡ Some s
             → Waiting (((is_done e.answer && same_key k' k') && not (is_open h k')) && eqb s (length h) || is_stored_at h s) (is_answered_at h s) (is_emptied_at h s)
         by true p d q y z = still_waits (is_stored_at h s) (is_answered_at h s) (is_emptied_at h s) (((is_done e.answer && same_key k' k') && not (is_open h k')) && eqb s (length h)) false false (ih p (old d z)) refl refl
           where
-            old : (d : Bool) → cond (d && false) (some (length h)) (last_stored h k) ≡ some s → last_stored h k ≡ some s
+            old : (d : Bool) → cond (d && false) (Some (length h)) (last_stored h k) ≡ Some s → last_stored h k ≡ Some s
             old true z = z
             old false z = z
         by false p false q y z = absurd (false≢true y)
@@ -236,7 +236,7 @@ open_waits (e ∷ h) k s o l = go (asks e.call) o l (open_waits h k s)
 
 pub record Opener (h : History) (s : ℕ) : Type 0 where
   pub key : Key
-  pub placed : last_stored h key ≡ some s
+  pub placed : last_stored h key ≡ Some s
   pub opened : is_open h key ≡ true
 
 pub opener : (h : History) (s : ℕ) → Waiting (is_stored_at h s) (is_answered_at h s) (is_emptied_at h s) → Opener h s
@@ -270,7 +270,7 @@ opener (e ∷ h) s w = go (asks e.call) refl w (opener h s)
         by true p =
             let two = (and-eq-true_iff ((is_done e.answer && same_key k k) && not (is_open h k)) (eqb s (length h))).0 p in
             let done = (and-eq-true_iff (is_done e.answer && same_key k k) (not (is_open h k))).0 two.0 in
-            record { key = k; placed = rw (q, two.0) (ap some (sym (eqb-true s (length h) two.1))); opened = rw (q, done.0) }
+            record { key = k; placed = rw (q, two.0) (ap Some (sym (eqb-true s (length h) two.1))); opened = rw (q, done.0) }
         by false p = again (ih (record { was_stored = rw p at w.was_stored; not_answered = w.not_answered; not_emptied = w.not_emptied }))
           where
             again : Opener h s → Opener (e ∷ h) s

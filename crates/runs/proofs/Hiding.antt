@@ -18,19 +18,15 @@ use Rattle.buffer.specs.Key as key
 use Rattle.buffer.specs.Lengths.{start_fits, result_length, is_data, suits}
 use Rattle.buffer.specs.Buffer.{vacant, is_pending, is_free, holds, in_lane, active_in}
 use Rattle.buffer.proofs.Keys.{same_true}
+use Rattle.std.specs.Prelude.{Err, None, Ok, Option, Result, Some}
+use Rattle.translator.specs.declared.NotLaunched.{NotLaunched}
 use Rattle.translator.specs.declared.Translator.{Translator}
 use Rattle.translator.specs.declared.LowSide.{LowSide}
 use Rattle.translator.specs.declared.LowSide.TheVariants.{Idle, Running, Abandoned}
-use Rattle.translator.specs.declared.Found.{Found}
-use Rattle.translator.specs.declared.Found.TheVariants.{Nowhere, At}
 use Rattle.translator.specs.declared.Choice.{Choice}
 use Rattle.translator.specs.declared.Choice.TheVariants.{NoRoom, LimitReached, Held, Reused, Took}
-use Rattle.translator.specs.declared.Earliest.{Earliest}
-use Rattle.translator.specs.declared.Earliest.TheVariants.{NonePending, Stored}
-use Rattle.translator.specs.declared.StartAnswer.TheVariants as start
-use Rattle.translator.specs.declared.LaunchAnswer.{LaunchAnswer}
-use Rattle.translator.specs.declared.LaunchAnswer.TheVariants.{NothingPending, Occupied, Launches}
-use Rattle.translator.specs.declared.DeliverAnswer.TheVariants as answer
+use Rattle.translator.specs.declared.NotLaunched.TheVariants.{NothingPending, Occupied}
+use Rattle.translator.specs.declared.NotDelivered.TheVariants as answer
 use Rattle.translator.specs.declared.Started.{Started}
 use Rattle.translator.specs.declared.Completed.{Completed}
 use Rattle.translator.specs.declared.Launched.{Launched}
@@ -41,7 +37,7 @@ use Rattle.translator.specs.Search.{later, find, choose_held, chosen}
 use Rattle.translator.specs.Limit.{permitted}
 use Rattle.translator.specs.ResetLane.{without_lane, low_without_lane, reset_lane}
 use Rattle.bools.specs.Bit.{bit}
-use Rattle.translator.specs.StartSplit.{stored, start_by, start_split}
+use Rattle.translator.specs.StartSplit.{stored, start_by, start_split, outside}
 use Rattle.translator.specs.CompleteSplit.{given, completed, complete_at, complete_split}
 use Rattle.translator.specs.Launch.{launched, launch_at, launch_by, launch}
 use Rattle.translator.specs.Deliver.{undelivered, delivered, deliver_by, deliver}
@@ -133,7 +129,7 @@ module _ (m : Marks) where
   hide_find : (f : Slot → Bool) (bs : List Buffer) → find f (map hide_b bs) ≡ find f bs
   unfolding find
   hide_find f [] = refl
-  hide_find f (b ∷ bs) = ap (λ (x : Found). cond (f b.slot) (At (record { 0 = 0 })) (later x)) (hide_find f bs)
+  hide_find f (b ∷ bs) = ap (λ (x : Option BufferNumber). cond (f b.slot) (Some (record { 0 = 0 })) (later x)) (hide_find f bs)
 
   hide_pass : {C : Type 0} (f : C → Slot → BufferNumber → C) (n : ℕ) (c : C) (bs : List Buffer) → pass f n c (map hide_b bs) ≡ pass f n c bs
   unfolding pass
@@ -145,15 +141,15 @@ module _ (m : Marks) where
 
   hide_earliest : (n : ℕ) (bs : List Buffer) → earliest (take n (map hide_b bs)) ≡ earliest (take n bs)
   unfolding earliest
-  hide_earliest n bs = rw (hide_take n bs) (hide_pass sooner 0 NonePending (take n bs))
+  hide_earliest n bs = rw (hide_take n bs) (hide_pass sooner 0 None (take n bs))
 
   hide_chosen : (n : ℕ) (k : Key) (bs : List Buffer) → chosen k (take n (map hide_b bs)) ≡ chosen k (take n bs)
   unfolding chosen
   hide_chosen n k bs = rw (hide_take n bs, hide_find (holds k) (take n bs)) (go (find (holds k) (take n bs)))
     where
-      go : (f : Found) → choose_held (map hide_b (take n bs)) f ≡ choose_held (take n bs) f
-      go Nowhere = rw (hide_find is_free (take n bs))
-      go (At i) = rw (hide_at (take n bs) i.0)
+      go : (f : Option BufferNumber) → choose_held (map hide_b (take n bs)) f ≡ choose_held (take n bs) f
+      go None = rw (hide_find is_free (take n bs))
+      go (Some i) = rw (hide_at (take n bs) i.0)
 
   hide_permitted : (b n : ℕ) (k : Key) (bs : List Buffer) → permitted b k (take n (map hide_b bs)) ≡ permitted b k (take n bs)
   unfolding permitted
@@ -202,8 +198,8 @@ module _ (m : Marks) where
       by (Reused n) = rw (hide_stored t n s l)
       by (Took n) = rw (hide_stored t n s l)
 
-      go : (x : Bool) (c : Choice) → cond x (start_by (hide_t t) s (blank (m (key.key_of s)) l) c) (record { next = hide_t t; answer = start.Outside })
-          ≡ hide_started (cond x (start_by t s l c) (record { next = t; answer = start.Outside }))
+      go : (x : Bool) (c : Choice) → cond x (start_by (hide_t t) s (blank (m (key.key_of s)) l) c) (record { next = hide_t t; answer = Err outside })
+          ≡ hide_started (cond x (start_by t s l c) (record { next = t; answer = Err outside }))
       go true c = by c
       go false c = refl
 
@@ -228,9 +224,9 @@ module _ (m : Marks) where
   unfolding complete_split
   hide_complete t k = rw (hide_first t.count (holds k) t.buffers) (go (find (holds k) (take t.count t.buffers)) (find_says (holds k) t.count t.buffers))
     where
-      go : (f : Found) → FindSays (holds k) t.count t.buffers f → complete_at (hide_t t) f ≡ hide_completed (m k) (complete_at t f)
-      go Nowhere r = rw (blank_none (m k))
-      go (At n) r = rw (hide_at t.buffers n.0, under k (at t.buffers n.0).slot r.passes) (slot (at t.buffers n.0).slot refl)
+      go : (f : Option BufferNumber) → FindSays (holds k) t.count t.buffers f → complete_at (hide_t t) f ≡ hide_completed (m k) (complete_at t f)
+      go None r = rw (blank_none (m k))
+      go (Some n) r = rw (hide_at t.buffers n.0, under k (at t.buffers n.0).slot r.passes) (slot (at t.buffers n.0).slot refl)
         where
           p : Payload
           p = (at t.buffers n.0).payload
@@ -243,10 +239,10 @@ module _ (m : Marks) where
           slot (Old s x) e = rw (hide_given (m k) x p)
 
   -- whether what is launched is marked
-  abbrev pub marked : LaunchAnswer → Bool
-  marked NothingPending = false
-  marked Occupied = false
-  marked (Launches s) = m (key.key_of s)
+  abbrev pub marked : Result StartSplit NotLaunched → Bool
+  marked (Err NothingPending) = false
+  marked (Err Occupied) = false
+  marked (Ok s) = m (key.key_of s)
 
   abbrev pub hide_launched : Launched → Launched
   hide_launched o = record { next = hide_t o.next; answer = o.answer; payload = blank_p (marked o.answer) o.payload }
@@ -261,9 +257,9 @@ module _ (m : Marks) where
       slot n (Ready s r) e = refl
       slot n (Old s r) e = refl
 
-      found : (e : Earliest) → launch_at (hide_t t) e ≡ hide_launched (launch_at t e)
-      found NonePending = refl
-      found (Stored n p) = rw (hide_at t.buffers n.0) (slot n (at t.buffers n.0).slot refl)
+      found : (e : Option (BufferNumber × ℕ)) → launch_at (hide_t t) e ≡ hide_launched (launch_at t e)
+      found None = refl
+      found (Some (n, p)) = rw (hide_at t.buffers n.0) (slot n (at t.buffers n.0).slot refl)
 
       go : (l : LowSide) → launch_by (hide_t t) l ≡ hide_launched (launch_by t l)
       go Idle = rw (hide_earliest t.count t.buffers) (found (earliest (take t.count t.buffers)))
@@ -281,8 +277,8 @@ module _ (m : Marks) where
       slot n (Pending s p) e = by (suits s.pid r)
         where
           by : (x : Bool)
-              → cond x (record { next = record { buffers = set (map hide_b t.buffers) n.0 (record { slot = Ready s r; payload = payload_of (blank (m (key.key_of s)) l) }); count = t.count; low = Idle }; answer = answer.Done }) (undelivered (hide_t t) answer.NotInThisState)
-              ≡ hide_delivered (cond x (record { next = record { buffers = set t.buffers n.0 (record { slot = Ready s r; payload = payload_of l }); count = t.count; low = Idle }; answer = answer.Done }) (undelivered t answer.NotInThisState))
+              → cond x (record { next = record { buffers = set (map hide_b t.buffers) n.0 (record { slot = Ready s r; payload = payload_of (blank (m (key.key_of s)) l) }); count = t.count; low = Idle }; answer = Ok tt }) (undelivered (hide_t t) answer.NotInThisState)
+              ≡ hide_delivered (cond x (record { next = record { buffers = set t.buffers n.0 (record { slot = Ready s r; payload = payload_of l }); count = t.count; low = Idle }; answer = Ok tt }) (undelivered t answer.NotInThisState))
           by true = rw (blank_payload (m (key.key_of s)) l, hide_set t.buffers n.0 (record { slot = Ready s r; payload = payload_of l }))
           by false = refl
 
@@ -297,9 +293,9 @@ module _ (m : Marks) where
   unfolding clear_buffer
   hide_clear t k = rw (hide_first t.count (holds k) t.buffers) (go (find (holds k) (take t.count t.buffers)))
     where
-      go : (f : Found) → clear_at (hide_t t) f ≡ hide_t (clear_at t f)
-      go Nowhere = refl
-      go (At n) = rw (hide_set t.buffers n.0 vacant)
+      go : (f : Option BufferNumber) → clear_at (hide_t t) f ≡ hide_t (clear_at t f)
+      go None = refl
+      go (Some n) = rw (hide_set t.buffers n.0 vacant)
 
   pub hide_reset : (t : Translator) (z : Lane) → reset_lane (hide_t t) z ≡ hide_t (reset_lane t z)
   unfolding reset_lane

@@ -13,10 +13,12 @@ use Rattle.buffer.specs.declared.Lane.{Lane}
 use Rattle.buffer.specs.declared.Key.{Key}
 use Rattle.buffer.specs.Key as key
 use Rattle.buffer.specs.Lengths.{start_fits}
-use Rattle.translator.specs.declared.CompleteAnswer.{CompleteAnswer}
-use Rattle.translator.specs.declared.CompleteAnswer.TheVariants.{NoMatch, NotYet, Gives}
-use Rattle.translator.specs.declared.LaunchAnswer.{LaunchAnswer}
-use Rattle.translator.specs.declared.LaunchAnswer.TheVariants.{NothingPending, Occupied, Launches}
+use Rattle.buffer.specs.declared.DeviceResult.{DeviceResult}
+use Rattle.buffer.specs.declared.StartSplit.{StartSplit}
+use Rattle.translator.specs.declared.NotLaunched.{NotLaunched}
+use Rattle.translator.specs.declared.NoResult.{NoResult}
+use Rattle.translator.specs.declared.NoResult.TheVariants.{NoMatch, NotYet}
+use Rattle.translator.specs.declared.NotLaunched.TheVariants.{NothingPending, Occupied}
 use Rattle.translator.specs.CompleteSplit.{complete_split}
 use Rattle.translator.specs.Launch.{launch}
 use Rattle.translator.specs.Clear.{clear_buffer}
@@ -24,10 +26,13 @@ use Rattle.translator.specs.ResetLane.{reset_lane}
 use Rattle.numbers.proofs.Laws.{numbers_claims_lem}
 use Rattle.numbers.specs.Named.{lane_from, pid_from, result_from}
 use Rattle.numbers.specs.Split.{split_named, split_from, key_from}
+use Rattle.std.specs.Prelude.{Option, Some, None}
 use Rattle.request.specs.declared.Kind.{Kind}
 use Rattle.request.specs.declared.Kind.TheVariants as kind
+use Rattle.std.specs.Prelude.{Result, Ok, Err}
+use Rattle.request.specs.declared.Fault.{Fault}
 use Rattle.request.specs.declared.Request.{Request}
-use Rattle.request.specs.declared.Request.TheVariants.{Wrong, SetConfiguration, GetConfiguration, GetHubDescriptor, GetHubStatus, GetPortStatus, ClearHubFeature, ClearPortFeature, SetPortFeature, ClearTTBuffer, ResetTT}
+use Rattle.request.specs.declared.Request.TheVariants.{SetConfiguration, GetConfiguration, GetHubDescriptor, GetHubStatus, GetPortStatus, ClearHubFeature, ClearPortFeature, SetPortFeature, ClearTTBuffer, ResetTT}
 use Rattle.request.specs.Setup.{setup_of}
 use Rattle.request.specs.Table.{kind_of}
 use Rattle.request.specs.Request.{request_of}
@@ -84,38 +89,38 @@ module _ (m : Marks) where
   hide_gives x h l e = rw e
 
   -- a request never gives payload bytes
-  request_shown : (y : Lane) (k : Kind) (v : ℕ) (a : Answer) → excepted (request_asks y k v) a ≡ false
-  request_shown y kind.Unknown v a = refl
-  request_shown y kind.SetConfiguration v a = refl
-  request_shown y kind.GetConfiguration v a = refl
-  request_shown y kind.GetHubDescriptor v a = refl
-  request_shown y kind.GetHubStatus v a = refl
-  request_shown y kind.GetPortStatus v a = refl
-  request_shown y kind.ClearHubFeature v a = refl
-  request_shown y kind.ClearPortFeature v a = refl
-  request_shown y kind.SetPortFeature v a = refl
-  request_shown y kind.ClearTTBuffer v a = refl
-  request_shown y kind.ResetTT v a = refl
+  request_shown : (y : Lane) (k : Option Kind) (v : ℕ) (a : Answer) → excepted (request_asks y k v) a ≡ false
+  request_shown y None v a = refl
+  request_shown y (Some kind.SetConfiguration) v a = refl
+  request_shown y (Some kind.GetConfiguration) v a = refl
+  request_shown y (Some kind.GetHubDescriptor) v a = refl
+  request_shown y (Some kind.GetHubStatus) v a = refl
+  request_shown y (Some kind.GetPortStatus) v a = refl
+  request_shown y (Some kind.ClearHubFeature) v a = refl
+  request_shown y (Some kind.ClearPortFeature) v a = refl
+  request_shown y (Some kind.SetPortFeature) v a = refl
+  request_shown y (Some kind.ClearTTBuffer) v a = refl
+  request_shown y (Some kind.ResetTT) v a = refl
 
-  hide_request : (x : Asks) (h : Hub) (y : Lane) (r : Request) → ((a : Answer) → excepted x a ≡ false) → by_request (hide_h h) y r ≡ hide_o x (by_request h y r)
+  hide_request : (x : Asks) (h : Hub) (y : Lane) (r : Result Request Fault) → ((a : Answer) → excepted x a ≡ false) → by_request (hide_h h) y r ≡ hide_o x (by_request h y r)
   unfolding configured_as
-  hide_request x h y (Wrong f) n = hide_plain x h 2
-  hide_request x h y (SetConfiguration on) n = hide_plain x (configured_as on h) 0
-  hide_request x h y GetConfiguration n = hide_gives x h _ (n _)
-  hide_request x h y (GetHubDescriptor l) n = hide_gives x h _ (n _)
-  hide_request x h y GetHubStatus n = hide_gives x h _ (n _)
-  hide_request x h y (GetPortStatus p) n = hide_gives x h _ (n _)
-  hide_request x h y ClearHubFeature n = hide_plain x h 0
-  hide_request x h y (ClearPortFeature p f) n = hide_plain x (clear_feature h p f) 0
-  hide_request x h y (SetPortFeature p f) n = hide_plain x (set_feature h p f) 0
-  hide_request x h y (ClearTTBuffer k) n = rw (hide_clear m h.translator (keyed y k)) (hide_plain x (with_translator h (clear_buffer h.translator (keyed y k))) 0)
-  hide_request x h y ResetTT n = rw (hide_reset m h.translator y) (hide_plain x (with_translator h (reset_lane h.translator y)) 0)
+  hide_request x h y (Err f) n = hide_plain x h 2
+  hide_request x h y (Ok (SetConfiguration on)) n = hide_plain x (configured_as on h) 0
+  hide_request x h y (Ok GetConfiguration) n = hide_gives x h _ (n _)
+  hide_request x h y (Ok (GetHubDescriptor l)) n = hide_gives x h _ (n _)
+  hide_request x h y (Ok GetHubStatus) n = hide_gives x h _ (n _)
+  hide_request x h y (Ok (GetPortStatus p)) n = hide_gives x h _ (n _)
+  hide_request x h y (Ok ClearHubFeature) n = hide_plain x h 0
+  hide_request x h y (Ok (ClearPortFeature p f)) n = hide_plain x (clear_feature h p f) 0
+  hide_request x h y (Ok (SetPortFeature p f)) n = hide_plain x (set_feature h p f) 0
+  hide_request x h y (Ok (ClearTTBuffer k)) n = rw (hide_clear m h.translator (keyed y k)) (hide_plain x (with_translator h (clear_buffer h.translator (keyed y k))) 0)
+  hide_request x h y (Ok ResetTT) n = rw (hide_reset m h.translator y) (hide_plain x (with_translator h (reset_lane h.translator y)) 0)
 
   hide_control : (h : Hub) (z : ℕ) (s : List ℕ) (room : ℕ) → requested (hide_h h) (lane_from z) (request_of h.identity.ports s) ≡ hide_o (asks (Control z s room)) (requested h (lane_from z) (request_of h.identity.ports s))
   unfolding requested asks
   hide_control h z s room = go (h.configured || served_always r)
     where
-      r : Request
+      r : Result Request Fault
       r = request_of h.identity.ports s
 
       x : Asks
@@ -142,15 +147,15 @@ module _ (m : Marks) where
       go true = refl
       go false = refl
 
-  hide_completed_lem : (k : Key) (h : Hub) (a : CompleteAnswer) (p : Payload) → completed_by (hide_h h) a (blank_p (m k) p) ≡ hide_o (completes k) (completed_by h a p)
-  hide_completed_lem k h NoMatch p = hide_plain (completes k) h 2
-  hide_completed_lem k h NotYet p = hide_plain (completes k) h 4
-  hide_completed_lem k h (Gives r) p = rw (blank-content (m k) p)
+  hide_completed_lem : (k : Key) (h : Hub) (a : Result DeviceResult NoResult) (p : Payload) → completed_by (hide_h h) a (blank_p (m k) p) ≡ hide_o (completes k) (completed_by h a p)
+  hide_completed_lem k h (Err NoMatch) p = hide_plain (completes k) h 2
+  hide_completed_lem k h (Err NotYet) p = hide_plain (completes k) h 4
+  hide_completed_lem k h (Ok r) p = rw (blank-content (m k) p)
 
-  hide_launched_lem : (h : Hub) (a : LaunchAnswer) (p : Payload) → launched_by (hide_h h) a (blank_p (marked m a) p) ≡ hide_o launches (launched_by h a p)
-  hide_launched_lem h NothingPending p = hide_plain launches h 3
-  hide_launched_lem h Occupied p = hide_plain launches h 8
-  hide_launched_lem h (Launches s) p = rw (numbers_claims_lem.lanes.value_back s.lane, numbers_claims_lem.directions.value_back (key.direction_of s.pid), blank-content (m (key.key_of s)) p)
+  hide_launched_lem : (h : Hub) (a : Result StartSplit NotLaunched) (p : Payload) → launched_by (hide_h h) a (blank_p (marked m a) p) ≡ hide_o launches (launched_by h a p)
+  hide_launched_lem h (Err NothingPending) p = hide_plain launches h 3
+  hide_launched_lem h (Err Occupied) p = hide_plain launches h 8
+  hide_launched_lem h (Ok s) p = rw (numbers_claims_lem.lanes.value_back s.lane, numbers_claims_lem.directions.value_back (key.direction_of s.pid), blank-content (m (key.key_of s)) p)
 
   -- ---- one call
 

@@ -2,7 +2,6 @@
 use Prim.Native.Nat.{ℕ}
 use native.Mathlib.Omega.{arith}
 use mathlib.Core.Path.{◌≡◌, refl, sym, ◌∙◌, ap}
-use mathlib.Core.Option.{some}
 use mathlib.Core.List.{List, [], ◌∷◌}
 use mathlib.Core.Bool.{Bool, true, false, cond, false≢true}
 use lib.ListN.{length, get_or}
@@ -24,6 +23,7 @@ use Rattle.translator.specs.Launch as launching
 use Rattle.translator.specs.Deliver as delivering
 use Rattle.numbers.specs.Named.{lane_from}
 use Rattle.numbers.specs.Split.{split_named, split_from, key_named, key_from}
+use Rattle.std.specs.Prelude.{Option, Some, None}
 use Rattle.request.specs.declared.Kind.{Kind}
 use Rattle.request.specs.declared.Kind.TheVariants as kind
 use Rattle.request.specs.Setup.{setup_of}
@@ -79,7 +79,7 @@ size_shown claim =
     let calls : List ℕ → List Call = λ x. configure ∷ in_to 5 ∷ Launch 64 ∷ Deliver 3 x ∷ complete 5 1 ∷ [] in
     let answers =
     claim key_in bench bench (calls (1 ∷ [])) (calls (2 ∷ [])) refl
-    (same _, (same _, (same _, (deliver 3 (1 ∷ []) (2 ∷ []) (record { key = key_in; place = some 1 }) refl refl refl, (same _, tt))))) in
+    (same _, (same _, (same _, (deliver 3 (1 ∷ []) (2 ∷ []) (record { key = key_in; place = Some 1 }) refl refl refl, (same _, tt))))) in
     let z : ◌≡◌ {A = ℕ} 1 2 = answers.1.1.1.1.0.size in
     omega (arith, z)
 
@@ -95,18 +95,18 @@ wrong_payload_lem claim =
     omega (arith, z)
 
 -- none of a request's bytes is excepted
-plain_request : (m : Marks) (z : Lane) (k : Kind) (v : ℕ) (a : Answer) → ¬ (Excepted m (request_asks z k v) a)
-plain_request m z kind.Unknown v a e = e
-plain_request m z kind.SetConfiguration v a e = e
-plain_request m z kind.GetConfiguration v a e = e
-plain_request m z kind.GetHubDescriptor v a e = e
-plain_request m z kind.GetHubStatus v a e = e
-plain_request m z kind.GetPortStatus v a e = e
-plain_request m z kind.ClearHubFeature v a e = e
-plain_request m z kind.ClearPortFeature v a e = e
-plain_request m z kind.SetPortFeature v a e = e
-plain_request m z kind.ClearTTBuffer v a e = e
-plain_request m z kind.ResetTT v a e = e
+plain_request : (m : Marks) (z : Lane) (k : Option Kind) (v : ℕ) (a : Answer) → ¬ (Excepted m (request_asks z k v) a)
+plain_request m z None v a e = e
+plain_request m z (Some kind.SetConfiguration) v a e = e
+plain_request m z (Some kind.GetConfiguration) v a e = e
+plain_request m z (Some kind.GetHubDescriptor) v a e = e
+plain_request m z (Some kind.GetHubStatus) v a e = e
+plain_request m z (Some kind.GetPortStatus) v a e = e
+plain_request m z (Some kind.ClearHubFeature) v a e = e
+plain_request m z (Some kind.ClearPortFeature) v a e = e
+plain_request m z (Some kind.SetPortFeature) v a e = e
+plain_request m z (Some kind.ClearTTBuffer) v a e = e
+plain_request m z (Some kind.ResetTT) v a e = e
 
 plain_call : (m : Marks) (c : Call) (a : Answer) → is_other c ≡ true → ¬ (Excepted m (asks c) a)
 unfolding asks

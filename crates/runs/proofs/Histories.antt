@@ -2,7 +2,7 @@
 use Prim.Native.Nat.{ℕ, suc, ◌<◌, ◌≤◌}
 use native.Mathlib.Omega.{arith}
 use mathlib.Core.Path.{◌≡◌, refl, sym, ◌∙◌, ap, subst}
-use mathlib.Core.Option.{Option, none, some}
+use Rattle.std.specs.Prelude.{Option, None, Some}
 use mathlib.Core.List.{List, [], ◌∷◌}
 use mathlib.Core.Bool.{Bool, true, false, cond, not, ◌&&◌, ◌||◌, and-eq-true_iff, false≢true, and-false, or-true}
 use borrow.Author.Tests.{eq-eqb, ne_eqb}
@@ -21,25 +21,25 @@ use Rattle.runs.specs.Tally.{answers_it, is_answered_at}
 -- ---- the place of a stored start-split is in the history
 
 abbrev pub Below : Option ℕ → ℕ → Type 0
-Below none n = Unit {0}
-Below (some s) n = s < n
+Below None n = Unit {0}
+Below (Some s) n = s < n
 
 below_suc : (o : Option ℕ) (n : ℕ) → Below o n → Below o (suc n)
-below_suc none n b = tt
-below_suc (some s) n b = omega arith
+below_suc None n b = tt
+below_suc (Some s) n b = omega arith
 
 pub stored-below : (h : History) (k : Key) → Below (last_stored h k) (length h)
 unfolding last_stored
 stored-below [] k = tt
 stored-below (e ∷ h) k = go (stores (asks e.call) e.answer k (is_open h k)) (last_stored h k) (stored-below h k)
   where
-    go : (t : Bool) (o : Option ℕ) → Below o (length h) → Below (cond t (some (length h)) o) (suc (length h))
+    go : (t : Bool) (o : Option ℕ) → Below o (length h) → Below (cond t (Some (length h)) o) (suc (length h))
     go true o b = omega arith
     go false o b = below_suc o (length h) b
 
 abbrev ForBelow : Option For → ℕ → Type 0
-ForBelow none n = Unit {0}
-ForBelow (some l) n = Below l.place n
+ForBelow None n = Unit {0}
+ForBelow (Some l) n = Below l.place n
 
 for_below : (h : History) → ForBelow (last_for h) (length h)
 unfolding last_for for_after
@@ -47,10 +47,10 @@ for_below [] = tt
 for_below (e ∷ h) = go (asks e.call) (last_for h) (for_below h)
   where
     up : (o : Option For) → ForBelow o (length h) → ForBelow o (suc (length h))
-    up none b = tt
-    up (some l) b = below_suc l.place (length h) b
+    up None b = tt
+    up (Some l) b = below_suc l.place (length h) b
 
-    by : (x : Bool) (k : Key) (o : Option For) → ForBelow o (length h) → ForBelow (cond x (some (record { key = k; place = last_stored h k })) o) (suc (length h))
+    by : (x : Bool) (k : Key) (o : Option For) → ForBelow o (length h) → ForBelow (cond x (Some (record { key = k; place = last_stored h k })) o) (suc (length h))
     by true k o b = below_suc (last_stored h k) (length h) (stored-below h k)
     by false k o b = up o b
 
@@ -66,12 +66,12 @@ for_below (e ∷ h) = go (asks e.call) (last_for h) (for_below h)
 
 -- nothing was launched or delivered for a start-split that is yet to come
 not_for : (o : Option For) (n s : ℕ) → ForBelow o n → n ≤ s → is_for o s ≡ false
-not_for none n s b h = refl
-not_for (some l) n s b h = go l.place b
+not_for None n s b h = refl
+not_for (Some l) n s b h = go l.place b
   where
     go : (o : Option ℕ) → Below o n → is_at o s ≡ false
-    go none b = refl
-    go (some m) b = ne_eqb m s (λ e. omega arith)
+    go None b = refl
+    go (Some m) b = ne_eqb m s (λ e. omega arith)
 
 pub fresh_for : (h : History) → is_for (last_for h) (length h) ≡ false
 fresh_for h = not_for (last_for h) (length h) (length h) (for_below h) (omega arith)
@@ -100,23 +100,23 @@ stores-key (clears k') a k l o u e f = absurd (false≢true e)
 stores-key (resets z) a k l o u e f = absurd (false≢true e)
 stores-key empties a k l o u e f = absurd (false≢true e)
 
-pub not_new : (h : History) (k : Key) {s : ℕ} → last_stored h k ≡ some s → length h ≡ s → ⊥
+pub not_new : (h : History) (k : Key) {s : ℕ} → last_stored h k ≡ Some s → length h ≡ s → ⊥
 not_new h k {s} e f =
     let b : s < length h = subst (λ (o : Option ℕ). Below o (length h)) e (stored-below h k) in
     omega arith
 
-pub some_inj : {a b : ℕ} → ◌≡◌ {A = Option ℕ} (some a) (some b) → a ≡ b
+pub some_inj : {a b : ℕ} → ◌≡◌ {A = Option ℕ} (Some a) (Some b) → a ≡ b
 some_inj e = cc
 
-pub one_key : (h : History) (k l : Key) (s : ℕ) → last_stored h k ≡ some s → last_stored h l ≡ some s → k ≡ l
+pub one_key : (h : History) (k l : Key) (s : ℕ) → last_stored h k ≡ Some s → last_stored h l ≡ Some s → k ≡ l
 unfolding last_stored
 one_key [] k l s e f = let z : ◌≡◌ {A = ℕ} 0 1 = cc in absurd (omega arith)
 one_key (e ∷ h) k l s p q =
     go (stores (asks e.call) e.answer k (is_open h k)) refl (stores (asks e.call) e.answer l (is_open h l)) refl p q (one_key h k l s)
   where
     go : (t : Bool) → stores (asks e.call) e.answer k (is_open h k) ≡ t → (u : Bool) → stores (asks e.call) e.answer l (is_open h l) ≡ u
-        → cond t (some (length h)) (last_stored h k) ≡ some s → cond u (some (length h)) (last_stored h l) ≡ some s
-        → (last_stored h k ≡ some s → last_stored h l ≡ some s → k ≡ l) → k ≡ l
+        → cond t (Some (length h)) (last_stored h k) ≡ Some s → cond u (Some (length h)) (last_stored h l) ≡ Some s
+        → (last_stored h k ≡ Some s → last_stored h l ≡ Some s → k ≡ l) → k ≡ l
     go true x true y p q ih = stores-key (asks e.call) e.answer k l (is_open h k) (is_open h l) x y
     go true x false y p q ih = absurd (not_new h l q (some_inj p))
     go false x true y p q ih = absurd (not_new h k p (some_inj q))
@@ -244,7 +244,7 @@ module _ (h : History) (e : Event) (k : Key) where
     unfolding is_open open_after
     start_opens = rw (q, d, same_eq k k refl)
 
-    pub start_stores : is_open h k ≡ false → last_stored (e ∷ h) k ≡ some (length h)
+    pub start_stores : is_open h k ≡ false → last_stored (e ∷ h) k ≡ Some (length h)
     unfolding last_stored stores
     start_stores o = rw (q, d, same_eq k k refl, o)
 
@@ -329,7 +329,7 @@ module _ (h : History) (e : Event) where
   launch_data q = no_data h e (ap (λ (x : Asks). data_of x e.answer) q)
 
   pub launch_for : asks e.call ≡ launches → eqb e.answer.number 1 ≡ true
-      → last_for (e ∷ h) ≡ some (record { key = answer_key e.answer; place = last_stored h (answer_key e.answer) })
+      → last_for (e ∷ h) ≡ Some (record { key = answer_key e.answer; place = last_stored h (answer_key e.answer) })
   unfolding last_for for_after
   launch_for q n = rw (q, n)
 
@@ -377,6 +377,6 @@ unfolding is_answered_at
 stays_answered h e s p = rw p (or-true (answers_it (asks e.call) e.answer h s))
 
 -- by a complete-split answered 1 or 9 under the key that it was last stored under
-pub now_answered : (h : History) (e : Event) (k : Key) (s : ℕ) → asks e.call ≡ completes k → gives_result e.answer ≡ true → last_stored h k ≡ some s → is_answered_at (e ∷ h) s ≡ true
+pub now_answered : (h : History) (e : Event) (k : Key) (s : ℕ) → asks e.call ≡ completes k → gives_result e.answer ≡ true → last_stored h k ≡ Some s → is_answered_at (e ∷ h) s ≡ true
 unfolding is_answered_at answers_it
 now_answered h e k s q r l = rw (q, r, l, eq-eqb s s refl)

@@ -2,7 +2,7 @@
 use Prim.Native.Nat.{ℕ, zero, suc, ◌<◌, ◌≤◌}
 use native.Mathlib.Decide.{ℕ_discrete}
 use mathlib.Core.Path.{◌≡◌, refl, sym, ◌∙◌, ap, subst}
-use mathlib.Core.Option.{Option, none, some}
+use Rattle.std.specs.Prelude.{Option, None, Some}
 use mathlib.Core.List.{List, [], ◌∷◌, map, append-nil}
 use mathlib.Core.Bool.{Bool, true, false, cond, true≢false, false≢true}
 use borrow.Author.Tests.{eq-eqb, ne_eqb, eqb-true, eqb-false}
@@ -46,7 +46,7 @@ held_data (Old s r) l = cond (is_data r) (record { pid = result_pid r; bytes = l
 pub record Good (h : History) (k : Key) (b : Buffer) : Type 0 where
   pub opened : is_open h k ≡ is_active b.slot
   pub place : ℕ
-  pub placed : last_stored h k ≡ some place
+  pub placed : last_stored h k ≡ Some place
   pub got : delivered_for h place ≡ held_data b.slot (content b.payload)
   -- what is old was answered
   pub aged : is_active b.slot ≡ false → is_answered_at h place ≡ true
@@ -54,7 +54,7 @@ pub record Good (h : History) (k : Key) (b : Buffer) : Type 0 where
 -- what runs is what the last launch answered 1 was for
 abbrev pub RunsFor : History → Slot → Type 0
 RunsFor h Empty = ⊥
-RunsFor h (Pending s p) = last_for h ≡ some (record { key = key.key_of s; place = last_stored h (key.key_of s) })
+RunsFor h (Pending s p) = last_for h ≡ Some (record { key = key.key_of s; place = last_stored h (key.key_of s) })
 RunsFor h (Ready s r) = ⊥
 RunsFor h (Old s r) = ⊥
 
@@ -62,7 +62,7 @@ abbrev pub LowOk : History → List Buffer → LowSide → Type 0
 LowOk h bs Idle = Unit {0}
 LowOk h bs (Running n) = RunsFor h (at bs n.0).slot
 -- what was launched is held nowhere any more
-LowOk h bs Abandoned = (l : For) → last_for h ≡ some l → (i : ℕ) (k : Key) → holds k (at bs i).slot ≡ true → ¬ (l.place ≡ last_stored h k)
+LowOk h bs Abandoned = (l : For) → last_for h ≡ Some l → (i : ℕ) (k : Key) → holds k (at bs i).slot ≡ true → ¬ (l.place ≡ last_stored h k)
 
 abbrev pub Unheld : Key → List Buffer → Type 0
 Unheld k bs = (i : ℕ) → holds k (at bs i).slot ≡ false
@@ -72,11 +72,11 @@ pub record Inv (h : History) (bs : List Buffer) (low : LowSide) : Type 0 where
   pub closed : (k : Key) → Unheld k bs → is_open h k ≡ false
   pub low_ok : LowOk h bs low
 
-for_inj : {a b : For} → ◌≡◌ {A = Option For} (some a) (some b) → a ≡ b
+for_inj : {a b : For} → ◌≡◌ {A = Option For} (Some a) (Some b) → a ≡ b
 for_inj e = cc
 
-for_same : {k : Key} {p q : Option ℕ} → p ≡ q → ◌≡◌ {A = Option For} (some (record { key = k; place = p })) (some (record { key = k; place = q }))
-for_same {k} e = ap (λ (x : Option ℕ). some (record { key = k; place = x })) e
+for_same : {k : Key} {p q : Option ℕ} → p ≡ q → ◌≡◌ {A = Option For} (Some (record { key = k; place = p })) (Some (record { key = k; place = q }))
+for_same {k} e = ap (λ (x : Option ℕ). Some (record { key = k; place = x })) e
 
 -- ---- an event that leaves a key alone
 
@@ -116,7 +116,7 @@ module _ (h : History) (e : Event) (bs : List Buffer) (i : ℕ) (b : Buffer) (k 
         subst (λ (x : Buffer). RunsFor (e ∷ h) x.slot) (sym (at_other bs i b here n.0 ne))
         (runs_kept kp f (at bs n.0).slot (others n.0 ne) w)
 
-    abandoned_else : ((l : For) → last_for h ≡ some l → (x : Key) → holds x b.slot ≡ true → ¬ (l.place ≡ last_stored (e ∷ h) x))
+    abandoned_else : ((l : For) → last_for h ≡ Some l → (x : Key) → holds x b.slot ≡ true → ¬ (l.place ≡ last_stored (e ∷ h) x))
         → LowOk h bs Abandoned → LowOk (e ∷ h) (set bs i b) Abandoned
     abandoned_else new w l g j x =
         at_cases bs i b here (λ (y : Buffer). holds x y.slot ≡ true → ¬ (l.place ≡ last_stored (e ∷ h) x)) j
@@ -265,7 +265,7 @@ module _ (h : History) (e : Event) (bs : List Buffer) (low : LowSide) (inv : Inv
           no_hold j ne true w = absurd (ne (only j w))
           no_hold j ne false w = refl
 
-      stored_now : last_stored (e ∷ h) (key.key_of s) ≡ some (length h)
+      stored_now : last_stored (e ∷ h) (key.key_of s) ≡ Some (length h)
       stored_now = start_stores h e (key.key_of s) q d was_closed
 
       new : (x : Key) → holds x b.slot ≡ true → Good (e ∷ h) x b
@@ -393,7 +393,7 @@ module _ (h : History) (e : Event) (bs : List Buffer) (low : LowSide) (inv : Inv
         low_ok =
             subst (RunsFor (e ∷ h)) (sym is)
             (launch_for h e q one
-            ∙ ap (λ (x : Key). some (record { key = x; place = last_stored h x })) under
+            ∙ ap (λ (x : Key). Some (record { key = x; place = last_stored h x })) under
             ∙ for_same (sym (kp.stored_kept (key.key_of s) tt)));
       }
     where
@@ -455,7 +455,7 @@ module _ (h : History) (e : Event) (bs : List Buffer) (low : LowSide) (inv : Inv
                 not_for_it h e o.place
                 (is_for_lem o.place
                 ∙ ne_eqb g.place o.place
-                (λ y. ne (apart j n.0 (ap (λ (z : Key). holds z (at bs j).slot) (one_key h (key.key_of s) x o.place (g.placed ∙ ap some y) o.placed) ∙ hd) holding)))
+                (λ y. ne (apart j n.0 (ap (λ (z : Key). holds z (at bs j).slot) (one_key h (key.key_of s) x o.place (g.placed ∙ ap Some y) o.placed) ∙ hd) holding)))
                 ∙ o.got;
             aged = λ y. stays_answered h e o.place (o.aged y);
           }
@@ -472,13 +472,13 @@ module _ (h : History) (e : Event) (bs : List Buffer) (low : LowSide) (inv : Inv
       kp : Keeps h e Any
       kp = keeps_deliver h e r l q
 
-      other : (o : Option For) → last_for h ≡ o → (j : ℕ) (x : Key) → holds x (at bs j).slot ≡ true → (s : ℕ) → last_stored h x ≡ some s → is_for o s ≡ false
-      other none y j x hd s p = refl
-      other (some m) y j x hd s p = at_place m.place refl
+      other : (o : Option For) → last_for h ≡ o → (j : ℕ) (x : Key) → holds x (at bs j).slot ≡ true → (s : ℕ) → last_stored h x ≡ Some s → is_for o s ≡ false
+      other None y j x hd s p = refl
+      other (Some m) y j x hd s p = at_place m.place refl
         where
           at_place : (o : Option ℕ) → m.place ≡ o → is_at o s ≡ false
-          at_place none z = refl
-          at_place (some n) z = ne_eqb n s (λ v. w m y j x hd (z ∙ ap some v ∙ sym p))
+          at_place None z = refl
+          at_place (Some n) z = ne_eqb n s (λ v. w m y j x hd (z ∙ ap Some v ∙ sym p))
 
       old : (j : ℕ) (x : Key) → holds x (at bs j).slot ≡ true → Good (e ∷ h) x (at bs j)
       old j x hd =

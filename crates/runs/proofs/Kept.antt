@@ -22,24 +22,22 @@ use Rattle.buffer.specs.Key as key
 use Rattle.buffer.specs.Lengths.{start_fits, result_length, is_data, suits}
 use Rattle.buffer.specs.Buffer.{is_active, is_free, holds}
 use Rattle.buffer.proofs.Keys.{same_true}
+use Rattle.std.specs.Prelude.{Err, None, Ok, Option, Result, Some}
+use Rattle.translator.specs.declared.NotLaunched.{NotLaunched}
 use Rattle.translator.specs.declared.Translator.{Translator}
 use Rattle.translator.specs.declared.LowSide.{LowSide}
 use Rattle.translator.specs.declared.LowSide.TheVariants.{Idle, Running, Abandoned}
-use Rattle.translator.specs.declared.Found.{Found}
-use Rattle.translator.specs.declared.Found.TheVariants.{Nowhere, At}
 use Rattle.translator.specs.declared.Choice.{Choice}
 use Rattle.translator.specs.declared.Choice.TheVariants.{NoRoom, LimitReached, Held, Reused, Took}
-use Rattle.translator.specs.declared.LaunchAnswer.{LaunchAnswer}
-use Rattle.translator.specs.declared.LaunchAnswer.TheVariants.{NothingPending, Occupied, Launches}
-use Rattle.translator.specs.declared.StartAnswer.TheVariants as start
-use Rattle.translator.specs.declared.DeliverAnswer.TheVariants as deliver
+use Rattle.translator.specs.declared.NotLaunched.TheVariants.{NothingPending, Occupied}
+use Rattle.translator.specs.declared.NotDelivered.TheVariants as deliver
 use Rattle.translator.specs.declared.Started.{Started}
 use Rattle.translator.specs.declared.Delivered.{Delivered}
 use Rattle.translator.specs.Translator.{at, emptied}
 use Rattle.translator.specs.Search.{find}
 use Rattle.translator.specs.Limit.{permitted}
 use Rattle.translator.specs.Order.{waiting, ranked}
-use Rattle.translator.specs.StartSplit.{stored, start_by, start_split}
+use Rattle.translator.specs.StartSplit.{stored, start_by, start_split, outside}
 use Rattle.translator.specs.CompleteSplit.{given, completed, complete_at, complete_split}
 use Rattle.translator.specs.Launch.{launch}
 use Rattle.translator.specs.Deliver as delivering
@@ -146,7 +144,7 @@ module _ (h : History) (t : Translator) (tied : Tied h t) where
       by_choice = start_by t s l (permitted t.count (key.key_of s) (take t.count t.buffers))
 
       none : Started
-      none = record { next = t; answer = start.Outside }
+      none = record { next = t; answer = Err outside }
 
       valid : ValidTranslator (start_by t s l (permitted t.count (key.key_of s) (take t.count t.buffers))).next
       valid = subst (λ (y : Bool). ValidTranslator (cond y by_choice none).next) f (start_valid t tied.valid s l)
@@ -205,10 +203,10 @@ module _ (h : History) (t : Translator) (tied : Tied h t) where
   unfolding complete_split
   complete_kept hub c k q = go (find (holds k) (take t.count t.buffers)) (find_says (holds k) t.count t.buffers) (complete_valid t tied.valid k)
     where
-      go : (f : Found) → FindSays (holds k) t.count t.buffers f → ValidTranslator (complete_at t f).next
+      go : (f : Option BufferNumber) → FindSays (holds k) t.count t.buffers f → ValidTranslator (complete_at t f).next
           → Kept h c (complete_at t f).next (completed_by hub (complete_at t f).answer (complete_at t f).payload).answer
-      go Nowhere r v = refused_kept c (plain_answer 2) (record { not_0 = refl; not_1 = refl; not_9 = refl })
-      go (At n) r v = complete_by hub c k n q r (at t.buffers n.0).slot refl v
+      go None r v = refused_kept c (plain_answer 2) (record { not_0 = refl; not_1 = refl; not_9 = refl })
+      go (Some n) r v = complete_by hub c k n q r (at t.buffers n.0).slot refl v
 
   -- ---- launch
 
@@ -221,10 +219,10 @@ module _ (h : History) (t : Translator) (tied : Tied h t) where
       refused : (n : ℕ) → Refused (plain_answer n) → is_refusal (launch_number (launch t).answer) ≡ true → Kept h c (launch t).next (plain_answer n)
       refused n r e = subst (λ (u : Translator). Kept h c u (plain_answer n)) (sym (refused_same.launched t e)) (refused_kept c (plain_answer n) r)
 
-      go : (a : LaunchAnswer) → (launch t).answer ≡ a → LaunchedAs t a (launch t) → ValidTranslator (launch t).next → Kept h c (launch t).next (launched_by hub a p).answer
-      go NothingPending e r v = refused 3 (record { not_0 = refl; not_1 = refl; not_9 = refl }) (ap (λ (a : LaunchAnswer). is_refusal (launch_number a)) e)
-      go Occupied e r v = refused 8 (record { not_0 = refl; not_1 = refl; not_9 = refl }) (ap (λ (a : LaunchAnswer). is_refusal (launch_number a)) e)
-      go (Launches s) e g v = (
+      go : (a : Result StartSplit NotLaunched) → (launch t).answer ≡ a → LaunchedAs t a (launch t) → ValidTranslator (launch t).next → Kept h c (launch t).next (launched_by hub a p).answer
+      go (Err NothingPending) e r v = refused 3 (record { not_0 = refl; not_1 = refl; not_9 = refl }) (ap (λ (a : Result StartSplit NotLaunched). is_refusal (launch_number a)) e)
+      go (Err Occupied) e r v = refused 8 (record { not_0 = refl; not_1 = refl; not_9 = refl }) (ap (λ (a : Result StartSplit NotLaunched). is_refusal (launch_number a)) e)
+      go (Ok s) e g v = (
         record {
           valid = v;
           inv =
@@ -266,7 +264,7 @@ module _ (h : History) (t : Translator) (tied : Tied h t) where
           b = record { slot = Ready s r; payload = payload_of l }
 
           now : Delivered
-          now = record { next = record { buffers = set t.buffers n.0 b; count = t.count; low = Idle }; answer = deliver.Done }
+          now = record { next = record { buffers = set t.buffers n.0 b; count = t.count; low = Idle }; answer = Ok tt }
 
           suited : (x : Bool) → ValidTranslator (cond x now (delivering.undelivered t deliver.NotInThisState)).next → Said (cond x now (delivering.undelivered t deliver.NotInThisState))
           suited true v =
@@ -284,8 +282,8 @@ module _ (h : History) (t : Translator) (tied : Tied h t) where
   unfolding clear_buffer
   clear_said c k q = go (find (holds k) (take t.count t.buffers)) (find_says (holds k) t.count t.buffers) (clear_valid t tied.valid k)
     where
-      go : (f : Found) → FindSays (holds k) t.count t.buffers f → ValidTranslator (clear_at t f) → Kept h c (clear_at t f) (plain_answer 0)
-      go Nowhere r v =
+      go : (f : Option BufferNumber) → FindSays (holds k) t.count t.buffers f → ValidTranslator (clear_at t f) → Kept h c (clear_at t f) (plain_answer 0)
+      go None r v =
           (record { valid = v; inv = closed_kept h (ev c (plain_answer 0)) t.buffers t.low tied.inv k q refl unheld }, explained_else h (asks c) (plain_answer 0) refl)
         where
           unheld : Unheld k t.buffers
@@ -294,7 +292,7 @@ module _ (h : History) (t : Translator) (tied : Tied h t) where
               by : (x : Bool) → holds k (at t.buffers i).slot ≡ x → x ≡ false
               by true hd = sym hd ∙ r i (in_use t tied.valid (holds k) refl i hd) (inside (holds k) refl t.buffers i hd)
               by false hd = refl
-      go (At n) r v = (
+      go (Some n) r v = (
         record { valid = v; inv = clear_kept h (ev c (plain_answer 0)) t.buffers t.low tied.inv k n q refl r.inside r.passes tied.valid.keys },
         explained_else h (asks c) (plain_answer 0) refl,
       )

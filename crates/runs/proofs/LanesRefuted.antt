@@ -2,7 +2,7 @@
 use Prim.Native.Nat.{ℕ, ◌<◌}
 use native.Mathlib.Omega.{arith}
 use mathlib.Core.Path.{◌≡◌, refl, ap}
-use mathlib.Core.Option.{some}
+use Rattle.std.specs.Prelude.{Some}
 use mathlib.Core.List.{List, [], ◌∷◌}
 use mathlib.Core.Bool.{true≢false, false≢true}
 use lib.ListN.{get_or}
@@ -56,7 +56,7 @@ without_lanes_lem claim =
     let calls : List ℕ → List Call = λ x. configure ∷ one_5 ∷ Launch 64 ∷ Deliver 3 x ∷ complete 5 1 ∷ [] in
     let answers =
     claim One bench bench (calls (1 ∷ [])) (calls (2 ∷ [])) refl
-    (same _, (same _, (same _, (deliver 3 (1 ∷ []) (2 ∷ []) (record { key = key_of One 5 1 direction.In; place = some 1 }) refl refl refl, (same _, tt))))) in
+    (same _, (same _, (same _, (deliver 3 (1 ∷ []) (2 ∷ []) (record { key = key_of One 5 1 direction.In; place = Some 1 }) refl refl refl, (same _, tt))))) in
     let z : ◌≡◌ {A = ℕ} 1 2 = ap (λ (l : List ℕ). get_or l 0 0) (answers.1.1.1.1.0.bytes (λ e. false≢true e)) in
     omega (arith, z)
 

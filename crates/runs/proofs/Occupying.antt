@@ -24,22 +24,17 @@ use Rattle.buffer.specs.Buffer.{in_lane, holds}
 use Rattle.translator.specs.declared.Translator.{Translator}
 use Rattle.translator.specs.declared.LowSide.{LowSide}
 use Rattle.translator.specs.declared.LowSide.TheVariants.{Idle, Running, Abandoned}
-use Rattle.translator.specs.declared.Found.{Found}
-use Rattle.translator.specs.declared.Found.TheVariants.{Nowhere, At}
 use Rattle.translator.specs.declared.Choice.{Choice}
 use Rattle.translator.specs.declared.Choice.TheVariants.{NoRoom, LimitReached, Held, Reused, Took}
-use Rattle.translator.specs.declared.Earliest.{Earliest}
-use Rattle.translator.specs.declared.Earliest.TheVariants.{NonePending, Stored}
-use Rattle.translator.specs.declared.StartAnswer.TheVariants as start
-use Rattle.translator.specs.declared.DeliverAnswer.TheVariants as deliver
-use Rattle.translator.specs.declared.LaunchAnswer.TheVariants.{NothingPending}
+use Rattle.translator.specs.declared.NotDelivered.TheVariants as deliver
+use Rattle.translator.specs.declared.NotLaunched.TheVariants.{NothingPending}
 use Rattle.translator.specs.declared.Delivered.{Delivered}
 use Rattle.translator.specs.declared.Launched.{Launched}
 use Rattle.translator.specs.Translator.{at}
 use Rattle.translator.specs.Search.{find}
 use Rattle.translator.specs.Limit.{permitted}
 use Rattle.translator.specs.Order.{earliest}
-use Rattle.translator.specs.StartSplit.{stored, start_by, start_split}
+use Rattle.translator.specs.StartSplit.{stored, start_by, start_split, outside}
 use Rattle.translator.specs.CompleteSplit.{completed, complete_at, complete_split}
 use Rattle.translator.specs.Launch as launching
 use Rattle.translator.specs.Deliver as delivering
@@ -48,10 +43,13 @@ use Rattle.translator.specs.ResetLane.{low_without_lane, reset_lane}
 use Rattle.translator.specs.Answers.{launch_number, deliver_number}
 use Rattle.numbers.specs.Named.{lane_from, result_from}
 use Rattle.numbers.specs.Split.{split_from, key_from}
+use Rattle.std.specs.Prelude.{Option, Some, None}
 use Rattle.request.specs.declared.Kind.{Kind}
 use Rattle.request.specs.declared.Kind.TheVariants as kind
+use Rattle.std.specs.Prelude.{Result, Ok, Err}
+use Rattle.request.specs.declared.Fault.{Fault}
 use Rattle.request.specs.declared.Request.{Request}
-use Rattle.request.specs.declared.Request.TheVariants.{Wrong, SetConfiguration, GetConfiguration, GetHubDescriptor, GetHubStatus, GetPortStatus, ClearHubFeature, ClearPortFeature, SetPortFeature, ClearTTBuffer, ResetTT}
+use Rattle.request.specs.declared.Request.TheVariants.{SetConfiguration, GetConfiguration, GetHubDescriptor, GetHubStatus, GetPortStatus, ClearHubFeature, ClearPortFeature, SetPortFeature, ClearTTBuffer, ResetTT}
 use Rattle.request.specs.Setup.{setup_of}
 use Rattle.request.specs.Table.{kind_of}
 use Rattle.request.specs.Request.{request_of}
@@ -99,7 +97,7 @@ start_low t s l = go (start_fits s (length l))
     by (Reused n) = refl
     by (Took n) = refl
 
-    go : (x : Bool) → (cond x (start_by t s l (permitted t.count (key.key_of s) (take t.count t.buffers))) (record { next = t; answer = start.Outside })).next.low ≡ t.low
+    go : (x : Bool) → (cond x (start_by t s l (permitted t.count (key.key_of s) (take t.count t.buffers))) (record { next = t; answer = Err outside })).next.low ≡ t.low
     go true = by (permitted t.count (key.key_of s) (take t.count t.buffers))
     go false = refl
 
@@ -113,9 +111,9 @@ complete_low t k = go (find (holds k) (take t.count t.buffers))
     slot n (Ready s r) = refl
     slot n (Old s r) = refl
 
-    go : (f : Found) → (complete_at t f).next.low ≡ t.low
-    go Nowhere = refl
-    go (At n) = slot n (at t.buffers n.0).slot
+    go : (f : Option BufferNumber) → (complete_at t f).next.low ≡ t.low
+    go None = refl
+    go (Some n) = slot n (at t.buffers n.0).slot
 
 -- what runs and is abandoned
 abandoned : (x : Bool) (n : BufferNumber) → occupied (cond x Abandoned (Running n)) ≡ true
@@ -131,9 +129,9 @@ clear_low t k = go (find (holds k) (take t.count t.buffers))
     without n (Running m) = abandoned (eqb m.0 n.0) m
     without n Abandoned = refl
 
-    go : (f : Found) → occupied (clear_at t f).low ≡ occupied t.low
-    go Nowhere = refl
-    go (At n) = without n t.low
+    go : (f : Option BufferNumber) → occupied (clear_at t f).low ≡ occupied t.low
+    go None = refl
+    go (Some n) = without n t.low
 
 reset_low : (t : Translator) (z : Lane) → occupied (reset_lane t z).low ≡ occupied t.low
 unfolding reset_lane
@@ -202,7 +200,7 @@ module _ (h : History) (hub : Hub) (side : SideOf h hub) where
       none : Said (delivering.undelivered t deliver.NotInThisState)
       none = refusal c 8 refl refl
 
-      suited : (x : Bool) (o : Delivered) → o.answer ≡ deliver.Done → o.next.low ≡ Idle → Said (cond x o (delivering.undelivered t deliver.NotInThisState))
+      suited : (x : Bool) (o : Delivered) → o.answer ≡ Ok tt → o.next.low ≡ Idle → Said (cond x o (delivering.undelivered t deliver.NotInThisState))
       suited true o a i = rw (a, i) (freed c (plain_answer 0) hub.configured (rw q))
       suited false o a i = none
 
@@ -223,25 +221,25 @@ module _ (h : History) (hub : Hub) (side : SideOf h hub) where
 
   -- ---- control requests
 
-  by_request_lem : (c : Call) (y : Lane) (r : Request) → AsksFor y r (asks c) → SideBy c (by_request hub y r)
+  by_request_lem : (c : Call) (y : Lane) (r : Result Request Fault) → AsksFor y r (asks c) → SideBy c (by_request hub y r)
   unfolding configured_as occupied_after
-  by_request_lem c y (Wrong f) q = refusal c 2 refl refl
-  by_request_lem c y (SetConfiguration on) q = freed c (plain_answer 0) on (rw q)
-  by_request_lem c y GetConfiguration q = nothing_side c _ q
-  by_request_lem c y (GetHubDescriptor n) q = nothing_side c _ q
-  by_request_lem c y GetHubStatus q = nothing_side c _ q
-  by_request_lem c y (GetPortStatus n) q = nothing_side c _ q
-  by_request_lem c y ClearHubFeature q = nothing_side c _ q
-  by_request_lem c y (ClearPortFeature n f) q = nothing_side c _ q
-  by_request_lem c y (SetPortFeature n f) q = nothing_side c _ q
-  by_request_lem c y (ClearTTBuffer k) q = quiet c (plain_answer 0) _ (rw q) (clear_low hub.translator (keyed y k))
-  by_request_lem c y ResetTT q = quiet c (plain_answer 0) _ (rw q) (reset_low hub.translator y)
+  by_request_lem c y (Err f) q = refusal c 2 refl refl
+  by_request_lem c y (Ok (SetConfiguration on)) q = freed c (plain_answer 0) on (rw q)
+  by_request_lem c y (Ok GetConfiguration) q = nothing_side c _ q
+  by_request_lem c y (Ok (GetHubDescriptor n)) q = nothing_side c _ q
+  by_request_lem c y (Ok GetHubStatus) q = nothing_side c _ q
+  by_request_lem c y (Ok (GetPortStatus n)) q = nothing_side c _ q
+  by_request_lem c y (Ok ClearHubFeature) q = nothing_side c _ q
+  by_request_lem c y (Ok (ClearPortFeature n f)) q = nothing_side c _ q
+  by_request_lem c y (Ok (SetPortFeature n f)) q = nothing_side c _ q
+  by_request_lem c y (Ok (ClearTTBuffer k)) q = quiet c (plain_answer 0) _ (rw q) (clear_low hub.translator (keyed y k))
+  by_request_lem c y (Ok ResetTT) q = quiet c (plain_answer 0) _ (rw q) (reset_low hub.translator y)
 
   control : (z : ℕ) (s : List ℕ) (room : ℕ) → SideBy (Control z s room) (requested hub (lane_from z) (request_of hub.identity.ports s))
   unfolding requested
   control z s room = go (hub.configured || served_always r)
     where
-      r : Request
+      r : Result Request Fault
       r = request_of hub.identity.ports s
 
       go : (x : Bool) → SideBy (Control z s room) (cond x (by_request hub (lane_from z) r) (refuse 2 hub))
@@ -306,9 +304,9 @@ module _ (h : History) (hub : Hub) (side : SideOf h hub) where
       slot on e n p (Ready s r) = none e
       slot on e n p (Old s r) = none e
 
-      found : hub.configured ≡ true → t.low ≡ Idle → (x : Earliest) → Both (By true true (launching.launch_at t x))
-      found on e NonePending = none e
-      found on e (Stored n p) = slot on e n (at t.buffers n.0).payload (at t.buffers n.0).slot
+      found : hub.configured ≡ true → t.low ≡ Idle → (x : Option (BufferNumber × ℕ)) → Both (By true true (launching.launch_at t x))
+      found on e None = none e
+      found on e (Some (n, p)) = slot on e n (at t.buffers n.0).payload (at t.buffers n.0).slot
 
       eight : is_occupied h ≡ true → Both (refuse 8 hub)
       eight e = (refusal c 8 refl refl, λ _. (λ _. e, λ _. refl))
@@ -345,18 +343,18 @@ module _ (h : History) (hub : Hub) (side : SideOf h hub) where
 
   -- ---- 8, of a launch
 
-  request_eight : (y : Lane) (k : Kind) (v : ℕ) (a : Answer) → OfLaunch (EightIfOccupied a h) (request_asks y k v)
-  request_eight y kind.Unknown v a = tt
-  request_eight y kind.SetConfiguration v a = tt
-  request_eight y kind.GetConfiguration v a = tt
-  request_eight y kind.GetHubDescriptor v a = tt
-  request_eight y kind.GetHubStatus v a = tt
-  request_eight y kind.GetPortStatus v a = tt
-  request_eight y kind.ClearHubFeature v a = tt
-  request_eight y kind.ClearPortFeature v a = tt
-  request_eight y kind.SetPortFeature v a = tt
-  request_eight y kind.ClearTTBuffer v a = tt
-  request_eight y kind.ResetTT v a = tt
+  request_eight : (y : Lane) (k : Option Kind) (v : ℕ) (a : Answer) → OfLaunch (EightIfOccupied a h) (request_asks y k v)
+  request_eight y None v a = tt
+  request_eight y (Some kind.SetConfiguration) v a = tt
+  request_eight y (Some kind.GetConfiguration) v a = tt
+  request_eight y (Some kind.GetHubDescriptor) v a = tt
+  request_eight y (Some kind.GetHubStatus) v a = tt
+  request_eight y (Some kind.GetPortStatus) v a = tt
+  request_eight y (Some kind.ClearHubFeature) v a = tt
+  request_eight y (Some kind.ClearPortFeature) v a = tt
+  request_eight y (Some kind.SetPortFeature) v a = tt
+  request_eight y (Some kind.ClearTTBuffer) v a = tt
+  request_eight y (Some kind.ResetTT) v a = tt
 
   pub step_eight : (c : Call) → OfLaunch (EightIfOccupied (step hub c).answer h) (asks c)
   unfolding asks

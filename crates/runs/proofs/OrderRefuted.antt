@@ -2,7 +2,7 @@
 use Prim.Native.Nat.{ℕ, zero, suc, ◌≤◌}
 use native.Mathlib.Omega.{arith}
 use mathlib.Core.Path.{◌≡◌, refl, sym, ◌∙◌, ap}
-use mathlib.Core.Option.{Option, some, none}
+use Rattle.std.specs.Prelude.{Option, Some, None}
 use mathlib.Core.List.{[], ◌∷◌}
 use mathlib.Core.Bool.{true≢false, false≢true}
 use Rattle.payload.specs.Payload.{padded, payload_of}
@@ -39,16 +39,16 @@ first claim = true≢false ((claim bench (configure ∷ in_to 5 ∷ in_to 6 ∷ 
 
 -- the toggle of a start-split
 toggle : Option Call → ℕ
-toggle none = 0
-toggle (some (Control z s r)) = 0
-toggle (some (Poll z r)) = 0
-toggle (some (Start z p t f g a e l)) = g
-toggle (some (Complete z a e d r)) = 0
-toggle (some (Launch r)) = 0
-toggle (some (Deliver r l)) = 0
-toggle (some (Line e n)) = 0
-toggle (some Tick) = 0
-toggle (some BusReset) = 0
+toggle None = 0
+toggle (Some (Control z s r)) = 0
+toggle (Some (Poll z r)) = 0
+toggle (Some (Start z p t f g a e l)) = g
+toggle (Some (Complete z a e d r)) = 0
+toggle (Some (Launch r)) = 0
+toggle (Some (Deliver r l)) = 0
+toggle (Some (Line e n)) = 0
+toggle (Some Tick) = 0
+toggle (Some BusReset) = 0
 
 -- what is launched is one of the first two calls, and has toggle 0
 early : {a : Answer} {h : History} (e : Earliest a h) → e.place ≤ 1 → toggle (call_at h 0) ≡ 0 → toggle (call_at h 1) ≡ 0 → a.toggle ≡ 0

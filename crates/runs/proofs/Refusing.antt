@@ -25,18 +25,14 @@ use Rattle.buffer.specs.declared.BufferNumber.{BufferNumber}
 use Rattle.buffer.specs.Key.{key_of}
 use Rattle.buffer.specs.Lengths.{start_fits, result_length, suits}
 use Rattle.buffer.specs.Buffer.{is_pending, is_free, holds}
+use Rattle.translator.specs.declared.NotLaunched.{NotLaunched}
 use Rattle.translator.specs.declared.Translator.{Translator}
 use Rattle.translator.specs.declared.LowSide.{LowSide}
 use Rattle.translator.specs.declared.LowSide.TheVariants.{Idle, Running, Abandoned}
-use Rattle.translator.specs.declared.Found.{Found}
-use Rattle.translator.specs.declared.Found.TheVariants.{Nowhere, At}
 use Rattle.translator.specs.declared.Choice.{Choice}
 use Rattle.translator.specs.declared.Choice.TheVariants.{NoRoom, LimitReached, Held, Reused, Took}
-use Rattle.translator.specs.declared.Earliest.{Earliest}
-use Rattle.translator.specs.declared.Earliest.TheVariants.{NonePending, Stored}
-use Rattle.translator.specs.declared.LaunchAnswer.{LaunchAnswer}
-use Rattle.translator.specs.declared.LaunchAnswer.TheVariants as answer
-use Rattle.translator.specs.declared.DeliverAnswer.TheVariants.{NotInThisState, Done}
+use Rattle.translator.specs.declared.NotLaunched.TheVariants as answer
+use Rattle.translator.specs.declared.NotDelivered.TheVariants.{NotInThisState}
 use Rattle.translator.specs.declared.Launched.{Launched}
 use Rattle.translator.specs.declared.Delivered.{Delivered}
 use Rattle.translator.specs.Translator.{at}
@@ -53,8 +49,10 @@ use Rattle.translator.proofs.Kept.{in_use, no_repeat}
 use Rattle.translator.proofs.Calls.{LaunchedAs, launched_as_lem, refused_same}
 use Rattle.numbers.specs.Named.{lane_from, is_result, result_from, event_from}
 use Rattle.numbers.specs.Split.{split_named, split_from, key_from}
+use Rattle.std.specs.Prelude.{Result, Ok, Err, None, Option, Some}
+use Rattle.request.specs.declared.Fault.{Fault}
 use Rattle.request.specs.declared.Request.{Request}
-use Rattle.request.specs.declared.Request.TheVariants.{Wrong, SetConfiguration, GetConfiguration, GetHubDescriptor, GetHubStatus, GetPortStatus, ClearHubFeature, ClearPortFeature, SetPortFeature, ClearTTBuffer, ResetTT}
+use Rattle.request.specs.declared.Request.TheVariants.{SetConfiguration, GetConfiguration, GetHubDescriptor, GetHubStatus, GetPortStatus, ClearHubFeature, ClearPortFeature, SetPortFeature, ClearTTBuffer, ResetTT}
 use Rattle.request.specs.Request.{request_of}
 use Rattle.hub.specs.declared.Hub.{Hub}
 use Rattle.hub.specs.Hub.{new_fits, with_translator}
@@ -224,9 +222,9 @@ launch_tells t = go t.low
     slot n (Ready s r) = passes
     slot n (Old s r) = passes
 
-    found : (e : Earliest) → LaunchTells (launch_at t e) ⊥
-    found NonePending = passes
-    found (Stored n p) = slot n (at t.buffers n.0).slot
+    found : (e : Option (BufferNumber × ℕ)) → LaunchTells (launch_at t e) ⊥
+    found None = passes
+    found (Some (n, p)) = slot n (at t.buffers n.0).slot
 
     go : (l : LowSide) → LaunchTells (launch_by t l) (Occupied l)
     go Idle = found (earliest (take t.count t.buffers))
@@ -245,7 +243,7 @@ deliver_tells h r l fits = rw fits (go h.translator.low)
     t : Translator
     t = h.translator
 
-    suited : (s : StartSplit) (o : Delivered) → o.answer ≡ Done → (x : Bool) → suits s.pid r ≡ x
+    suited : (s : StartSplit) (o : Delivered) → o.answer ≡ Ok tt → (x : Bool) → suits s.pid r ≡ x
         → DeliverTells (cond x o (undelivered t NotInThisState)) (suits s.pid r ≡ false)
     suited s o d true e = inr (ap deliver_number d, λ f. true≢false (sym e ∙ f))
     suited s o d false e = inl (refl, e)
@@ -279,13 +277,13 @@ event_tells h e n =
     both_tell h.configured (not (eqb (event_number_lem h e n) 8)) (configured_tells h)
     (λ _. by (port_claims_lem.event_answers (port_at h.ports (record { 0 = n })) (event_from e)))
   where
-    At : ℕ → Type 0
-    At k = Tells (not (eqb k 8)) (Unnamed h e n)
+    Some : ℕ → Type 0
+    Some k = Tells (not (eqb k 8)) (Unnamed h e n)
 
-    by : (event_number_lem h e n ≡ 0) ⊎ (event_number_lem h e n ≡ 8) → At (event_number_lem h e n)
+    by : (event_number_lem h e n ≡ 0) ⊎ (event_number_lem h e n ≡ 8) → Some (event_number_lem h e n)
     by (inl z) =
-        subst At (sym z) (λ f. absurd (true≢false f), λ u. absurd (u ((port_claims_lem.event_done (port_at h.ports (record { 0 = n })) (event_from e)).0 z)))
-    by (inr z) = subst At (sym z) (λ f. refused_unnamed h e n z, λ u. refl)
+        subst Some (sym z) (λ f. absurd (true≢false f), λ u. absurd (u ((port_claims_lem.event_done (port_at h.ports (record { 0 = n })) (event_from e)).0 z)))
+    by (inr z) = subst Some (sym z) (λ f. refused_unnamed h e n z, λ u. refl)
 
 result_fits : (h : Hub) (r : ℕ) (l : List ℕ) → within h (Deliver r l) ≡ true → result_length (result_from r) (length l) ≡ true
 unfolding within
@@ -311,18 +309,18 @@ misplaced_tells h BusReset w = passes
 -- ---- the call's own rule
 
 -- a request is wrong, or it is served
-request_served : (h : Hub) (y : Lane) (q : Request) → IsWrong q ⊎ Serves (by_request h y q).answer.number
-request_served h y (Wrong f) = inl (f, refl)
-request_served h y (SetConfiguration on) = inr (inl refl)
-request_served h y GetConfiguration = inr (inr (inl refl))
-request_served h y (GetHubDescriptor n) = inr (inr (inl refl))
-request_served h y GetHubStatus = inr (inr (inl refl))
-request_served h y (GetPortStatus n) = inr (inr (inl refl))
-request_served h y ClearHubFeature = inr (inl refl)
-request_served h y (ClearPortFeature n f) = inr (inl refl)
-request_served h y (SetPortFeature n f) = inr (inl refl)
-request_served h y (ClearTTBuffer k) = inr (inl refl)
-request_served h y ResetTT = inr (inl refl)
+request_served : (h : Hub) (y : Lane) (q : Result Request Fault) → IsWrong q ⊎ Serves (by_request h y q).answer.number
+request_served h y (Err f) = inl (f, refl)
+request_served h y (Ok (SetConfiguration on)) = inr (inl refl)
+request_served h y (Ok GetConfiguration) = inr (inr (inl refl))
+request_served h y (Ok (GetHubDescriptor n)) = inr (inr (inl refl))
+request_served h y (Ok GetHubStatus) = inr (inr (inl refl))
+request_served h y (Ok (GetPortStatus n)) = inr (inr (inl refl))
+request_served h y (Ok ClearHubFeature) = inr (inl refl)
+request_served h y (Ok (ClearPortFeature n f)) = inr (inl refl)
+request_served h y (Ok (SetPortFeature n f)) = inr (inl refl)
+request_served h y (Ok (ClearTTBuffer k)) = inr (inl refl)
+request_served h y (Ok ResetTT) = inr (inl refl)
 
 control_sorted : (h : Hub) (z : ℕ) (s : List ℕ) (room : ℕ) → Past h (Control z s room) 4 → Verdict h (Control z s room) (requested h (lane_from z) (request_of h.identity.ports s))
 unfolding requested
@@ -331,12 +329,12 @@ control_sorted h z s room p = go h.configured refl (served_always q) refl
     c : Call
     c = Control z s room
 
-    q : Request
+    q : Result Request Fault
     q = request_of h.identity.ports s
 
     -- a request that is served is not wrong
     not_wrong : Serves (by_request h (lane_from z) q).answer.number → ¬ (IsWrong q)
-    not_wrong v w = not_both (by_request h (lane_from z) q).answer.number stall v (ap (λ (x : Request). (by_request h (lane_from z) x).answer.number) w.1)
+    not_wrong v w = not_both (by_request h (lane_from z) q).answer.number stall v (ap (λ (x : Result Request Fault). (by_request h (lane_from z) x).answer.number) w.1)
 
     by : ¬ ((h.configured ≡ false) × (served_always q ≡ false)) → IsWrong q ⊎ Serves (by_request h (lane_from z) q).answer.number → Verdict h c (by_request h (lane_from z) q)
     by n (inl w) = at_2 h c p (inl w) (ap (by_request h (lane_from z)) w.1)
@@ -455,9 +453,9 @@ module _ (h : Hub) (valid : ValidHub h) where
       k : Key
       k = key_from z a e d
 
-      go : (f : Found) → FindSays (holds k) t.count t.buffers f → Verdict h (Complete z a e d room) (completed_as h (complete_at t f))
-      go Nowhere m = at_2 h (Complete z a e d room) p (none_at_all (holds k) refl m) refl
-      go (At n) r = complete_slot z a e d room p n r (at t.buffers n.0).slot refl
+      go : (f : Option BufferNumber) → FindSays (holds k) t.count t.buffers f → Verdict h (Complete z a e d room) (completed_as h (complete_at t f))
+      go None m = at_2 h (Complete z a e d room) p (none_at_all (holds k) refl m) refl
+      go (Some n) r = complete_slot z a e d room p n r (at t.buffers n.0).slot refl
 
   launch_sorted : (room : ℕ) → fitting h (Launch room) ≡ true → Past h (Launch room) 4
       → Verdict h (Launch room) (launched_by (with_translator h (launch h.translator).next) (launch h.translator).answer (launch h.translator).payload)
@@ -467,11 +465,11 @@ module _ (h : Hub) (valid : ValidHub h) where
       c : Call
       c = Launch room
 
-      go : (a : LaunchAnswer) → (launch t).answer ≡ a → LaunchedAs t a (launch t) → Verdict h c (launched_by (with_translator h (launch t).next) a (launch t).payload)
-      go answer.NothingPending e says =
-          at_3 h c p never says (ap (λ (x : Translator). refuse 3 (with_translator h x)) (refused_same.launched t (ap (λ (x : LaunchAnswer). is_refusal (launch_number x)) e)))
-      go answer.Occupied e says = absurd (false≢true (ap (λ (x : LaunchAnswer). not (eqb (launch_number x) 8)) (sym e) ∙ fit))
-      go (answer.Launches s) e says = at_last h c p never (λ u. true≢false (sym (ap is_pending says.pending) ∙ u says.number.0)) never (inr (inl refl))
+      go : (a : Result StartSplit NotLaunched) → (launch t).answer ≡ a → LaunchedAs t a (launch t) → Verdict h c (launched_by (with_translator h (launch t).next) a (launch t).payload)
+      go (Err answer.NothingPending) e says =
+          at_3 h c p never says (ap (λ (x : Translator). refuse 3 (with_translator h x)) (refused_same.launched t (ap (λ (x : Result StartSplit NotLaunched). is_refusal (launch_number x)) e)))
+      go (Err answer.Occupied) e says = absurd (false≢true (ap (λ (x : Result StartSplit NotLaunched). not (eqb (launch_number x) 8)) (sym e) ∙ fit))
+      go (Ok s) e says = at_last h c p never (λ u. true≢false (sym (ap is_pending says.pending) ∙ u says.number.0)) never (inr (inl refl))
 
   rule_sorted : (c : Call) → within h c ≡ true → fitting h c ≡ true → ¬ (Misplaced h c) → Past h c 4 → Verdict h c (rule.served h c)
   unfolding rule.served event_number_lem

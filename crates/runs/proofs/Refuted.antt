@@ -2,7 +2,6 @@
 use Prim.Native.Nat.{ℕ, zero, suc, ◌≤◌}
 use native.Mathlib.Omega.{arith}
 use mathlib.Core.Path.{◌≡◌, refl, ap}
-use mathlib.Core.Option.{Option, some, none}
 use mathlib.Core.List.{List, [], ◌∷◌}
 use mathlib.Core.Bool.{true, false≢true}
 use mathlib.Core.Logic.{◌⊎◌, inl, inr, ⊎_elim}
@@ -24,8 +23,10 @@ use Rattle.translator.specs.Clear.{clear_buffer}
 use Rattle.buffer.specs.declared.Lane.{Lane}
 use Rattle.buffer.specs.declared.Lane.TheVariants.{Zero}
 use Rattle.numbers.specs.Named.{lane_from}
+use Rattle.std.specs.Prelude.{Result, Ok, Err, Option, Some, None}
+use Rattle.request.specs.declared.Fault.{Fault}
 use Rattle.request.specs.declared.Request.{Request}
-use Rattle.request.specs.declared.Request.TheVariants.{Wrong, SetConfiguration, GetConfiguration, GetHubDescriptor, GetHubStatus, GetPortStatus, ClearHubFeature, ClearPortFeature, SetPortFeature, ClearTTBuffer, ResetTT}
+use Rattle.request.specs.declared.Request.TheVariants.{SetConfiguration, GetConfiguration, GetHubDescriptor, GetHubStatus, GetPortStatus, ClearHubFeature, ClearPortFeature, SetPortFeature, ClearTTBuffer, ResetTT}
 use Rattle.numbers.specs.Split.{split_named, split_from, key_named, key_from}
 use Rattle.request.specs.Table.{kind_of}
 use Rattle.request.specs.Request.{checked as asked, request_of}
@@ -76,7 +77,7 @@ late_shows claim =
     let calls : List ℕ → List Call = λ x. configure ∷ in_to 5 ∷ Launch 64 ∷ clear_5 ∷ in_to 6 ∷ Deliver 3 x ∷ complete 6 1 ∷ [] in
     let answers =
     claim (key_of Zero 5 1 direction.In) bench bench (calls (1 ∷ [])) (calls (2 ∷ [])) refl
-    (same _, (same _, (same _, (same _, (same _, (deliver 3 (1 ∷ []) (2 ∷ []) (record { key = key_of Zero 5 1 direction.In; place = some 1 }) refl refl refl, (same _, tt))))))) in
+    (same _, (same _, (same _, (same _, (same _, (deliver 3 (1 ∷ []) (2 ∷ []) (record { key = key_of Zero 5 1 direction.In; place = Some 1 }) refl refl refl, (same _, tt))))))) in
     let other : ¬ (only_key (key_of Zero 5 1 direction.In) (key_of Zero 6 1 direction.In) ≡ true) = λ e. false≢true e in
     let z : ◌≡◌ {A = ℕ} 1 2 = ap (λ (l : List ℕ). get_or l 0 0) (answers.1.1.1.1.1.1.0.bytes other) in
     omega (arith, z)
@@ -102,16 +103,16 @@ tail_shown claim =
 
 -- the device of a start-split
 device : Option Call → ℕ
-device none = 0
-device (some (Control z s r)) = 0
-device (some (Poll z r)) = 0
-device (some (Start z p t f g a e l)) = a
-device (some (Complete z a e d r)) = 0
-device (some (Launch r)) = 0
-device (some (Deliver r l)) = 0
-device (some (Line e n)) = 0
-device (some Tick) = 0
-device (some BusReset) = 0
+device None = 0
+device (Some (Control z s r)) = 0
+device (Some (Poll z r)) = 0
+device (Some (Start z p t f g a e l)) = a
+device (Some (Complete z a e d r)) = 0
+device (Some (Launch r)) = 0
+device (Some (Deliver r l)) = 0
+device (Some (Line e n)) = 0
+device (Some Tick) = 0
+device (Some BusReset) = 0
 
 -- what is launched is one of the first three calls
 early : {a : Answer} {h : History} (e : Earliest a h) → e.place ≤ 2
@@ -142,18 +143,18 @@ latest-launched claim =
     let f = early e (omega (arith, e.earliest 1 refl)) in
     ⊎_elim (λ z. omega (arith, z)) (⊎_elim (λ z. omega (arith, z)) (λ z. omega (arith, z))) f
 
-own_request : (h : Hub) (y : Lane) (r : Request) → request_by own own_ports h y r ≡ by_request h y r
-own_request h y (Wrong f) = refl
-own_request h y (SetConfiguration on) = refl
-own_request h y GetConfiguration = refl
-own_request h y (GetHubDescriptor n) = refl
-own_request h y GetHubStatus = refl
-own_request h y (GetPortStatus n) = refl
-own_request h y ClearHubFeature = refl
-own_request h y (ClearPortFeature n f) = refl
-own_request h y (SetPortFeature n f) = refl
-own_request h y (ClearTTBuffer k) = refl
-own_request h y ResetTT = refl
+own_request : (h : Hub) (y : Lane) (r : Result Request Fault) → request_by own own_ports h y r ≡ by_request h y r
+own_request h y (Err f) = refl
+own_request h y (Ok (SetConfiguration on)) = refl
+own_request h y (Ok GetConfiguration) = refl
+own_request h y (Ok (GetHubDescriptor n)) = refl
+own_request h y (Ok GetHubStatus) = refl
+own_request h y (Ok (GetPortStatus n)) = refl
+own_request h y (Ok ClearHubFeature) = refl
+own_request h y (Ok (ClearPortFeature n f)) = refl
+own_request h y (Ok (SetPortFeature n f)) = refl
+own_request h y (Ok (ClearTTBuffer k)) = refl
+own_request h y (Ok ResetTT) = refl
 
 own_served : OwnServed
 unfolding served requested

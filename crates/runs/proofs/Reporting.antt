@@ -38,10 +38,13 @@ use Rattle.numbers.specs.Named.{lane_from, is_event, event_from, port_named}
 use Rattle.numbers.specs.Split.{key_from}
 use Rattle.numbers.specs.Written.{event_number}
 use Rattle.numbers.proofs.Laws.{numbers_claims_lem}
+use Rattle.std.specs.Prelude.{Option, Some}
 use Rattle.request.specs.declared.Kind.{Kind}
 use Rattle.request.specs.declared.Kind.TheVariants as kind
+use Rattle.std.specs.Prelude.{Result, Ok, Err}
+use Rattle.request.specs.declared.Fault.{Fault}
 use Rattle.request.specs.declared.Request.{Request}
-use Rattle.request.specs.declared.Request.TheVariants.{Wrong, SetConfiguration, GetConfiguration, GetHubDescriptor, GetHubStatus, GetPortStatus, ClearHubFeature, ClearPortFeature, SetPortFeature, ClearTTBuffer, ResetTT}
+use Rattle.request.specs.declared.Request.TheVariants.{SetConfiguration, GetConfiguration, GetHubDescriptor, GetHubStatus, GetPortStatus, ClearHubFeature, ClearPortFeature, SetPortFeature, ClearTTBuffer, ResetTT}
 use Rattle.request.specs.Setup.{setup_of}
 use Rattle.request.specs.Values.{clearable_of}
 use Rattle.request.specs.Table.{kind_of, value_fits}
@@ -110,20 +113,20 @@ clear_asks n clearable.Suspend = nothing
 clear_asks n clearable.Power = nothing
 clear_asks n (clearable.Change b) = bit_asks n b
 
-abbrev AsksFor : Request → PortAsks → Type 0
-AsksFor (Wrong f) x = Unit {0}
-AsksFor (SetConfiguration on) x = x ≡ nothing
-AsksFor GetConfiguration x = x ≡ nothing
-AsksFor (GetHubDescriptor n) x = x ≡ nothing
-AsksFor GetHubStatus x = x ≡ nothing
-AsksFor (GetPortStatus n) x = x ≡ reads n.0
-AsksFor ClearHubFeature x = x ≡ nothing
-AsksFor (ClearPortFeature n f) x = x ≡ clear_asks n.0 f
-AsksFor (SetPortFeature n f) x = x ≡ nothing
-AsksFor (ClearTTBuffer k) x = x ≡ nothing
-AsksFor ResetTT x = x ≡ nothing
+abbrev AsksFor : Result Request Fault → PortAsks → Type 0
+AsksFor (Err f) x = Unit {0}
+AsksFor (Ok (SetConfiguration on)) x = x ≡ nothing
+AsksFor (Ok GetConfiguration) x = x ≡ nothing
+AsksFor (Ok (GetHubDescriptor n)) x = x ≡ nothing
+AsksFor (Ok GetHubStatus) x = x ≡ nothing
+AsksFor (Ok (GetPortStatus n)) x = x ≡ reads n.0
+AsksFor (Ok ClearHubFeature) x = x ≡ nothing
+AsksFor (Ok (ClearPortFeature n f)) x = x ≡ clear_asks n.0 f
+AsksFor (Ok (SetPortFeature n f)) x = x ≡ nothing
+AsksFor (Ok (ClearTTBuffer k)) x = x ≡ nothing
+AsksFor (Ok ResetTT) x = x ≡ nothing
 
-clear_asks_lem : (n : ℕ) (f : ClearableFeature) → request_asks kind.ClearPortFeature (clearable_number f) n ≡ clear_asks n f
+clear_asks_lem : (n : ℕ) (f : ClearableFeature) → request_asks (Some kind.ClearPortFeature) (clearable_number f) n ≡ clear_asks n f
 clear_asks_lem n clearable.Enable = refl
 clear_asks_lem n clearable.Suspend = refl
 clear_asks_lem n clearable.Power = refl
@@ -133,15 +136,14 @@ clear_asks_lem n (clearable.Change bit.Suspend) = refl
 clear_asks_lem n (clearable.Change bit.OverCurrent) = refl
 clear_asks_lem n (clearable.Change bit.Reset) = refl
 
-meaning-asks : (k : Kind) (v i l : ℕ) → value_fits k v ≡ true → AsksFor (meaning k v i l) (request_asks k v i)
-meaning-asks kind.Unknown v i l x = tt
+meaning-asks : (k : Kind) (v i l : ℕ) → value_fits k v ≡ true → AsksFor (Ok (meaning k v i l)) (request_asks (Some k) v i)
 meaning-asks kind.SetConfiguration v i l x = refl
 meaning-asks kind.GetConfiguration v i l x = refl
 meaning-asks kind.GetHubDescriptor v i l x = refl
 meaning-asks kind.GetHubStatus v i l x = refl
 meaning-asks kind.GetPortStatus v i l x = refl
 meaning-asks kind.ClearHubFeature v i l x = refl
-meaning-asks kind.ClearPortFeature v i l x = ap (λ (w : ℕ). request_asks kind.ClearPortFeature w i) (clearable_back v x) ∙ clear_asks_lem i (clearable_of v)
+meaning-asks kind.ClearPortFeature v i l x = ap (λ (w : ℕ). request_asks (Some kind.ClearPortFeature) w i) (clearable_back v x) ∙ clear_asks_lem i (clearable_of v)
 meaning-asks kind.SetPortFeature v i l x = refl
 meaning-asks kind.ClearTTBuffer v i l x = refl
 meaning-asks kind.ResetTT v i l x = refl
@@ -152,7 +154,7 @@ request_asks_lem n z s room =
     let x = setup_of s in
     let k = kind_of x.requesttype x.code in
     checks (λ r. AsksFor r (request_asks k x.value x.index)) n k x.value x.index x.length (λ f. tt)
-    (λ v i l. meaning-asks k x.value x.index x.length v)
+    (λ q e v i l. subst (λ (r : Option Kind). AsksFor (Ok (meaning q x.value x.index x.length)) (request_asks r x.value x.index)) (sym e) (meaning-asks q x.value x.index x.length v))
 
 -- ---- one call
 
@@ -228,7 +230,7 @@ module _ (h : Hub) (v : ValidHub h) (m : PortNumber) (among : Among h.identity.p
 
   -- ---- the requests
 
-  clear_report : (y : Lane) (n : PortNumber) (f : ClearableFeature) → Says (clear_asks n.0 f) (by_request h y (ClearPortFeature n f))
+  clear_report : (y : Lane) (n : PortNumber) (f : ClearableFeature) → Says (clear_asks n.0 f) (by_request h y (Ok (ClearPortFeature n f)))
   unfolding reported_after
   clear_report y n clearable.Enable = kept_report n (input.ClearFeature clearable.Enable) refl
   clear_report y n clearable.Suspend = kept_report n (input.ClearFeature clearable.Suspend) refl
@@ -240,26 +242,26 @@ module _ (h : Hub) (v : ValidHub h) (m : PortNumber) (among : Among h.identity.p
   clear_report y n (clearable.Change bit.OverCurrent) = kept_report n (input.ClearFeature (clearable.Change bit.OverCurrent)) refl
   clear_report y n (clearable.Change bit.Reset) = kept_report n (input.ClearFeature (clearable.Change bit.Reset)) refl
 
-  by_request_lem : (x : PortAsks) (y : Lane) (r : Request) → AsksFor r x → Says x (by_request h y r)
+  by_request_lem : (x : PortAsks) (y : Lane) (r : Result Request Fault) → AsksFor r x → Says x (by_request h y r)
   unfolding configured_as reported_after
-  by_request_lem x y (Wrong f) q = refusal x 2 refl
-  by_request_lem x y (SetConfiguration true) q = quiet x (by_request h y (SetConfiguration true)) q (swept_kept sweep.Configure (λ p. refl))
-  by_request_lem x y (SetConfiguration false) q = quiet x (by_request h y (SetConfiguration false)) q (swept_kept sweep.Unconfigure (λ p. refl))
-  by_request_lem x y GetConfiguration q = quiet x (by_request h y GetConfiguration) q refl
-  by_request_lem x y (GetHubDescriptor n) q = quiet x (by_request h y (GetHubDescriptor n)) q refl
-  by_request_lem x y GetHubStatus q = quiet x (by_request h y GetHubStatus) q refl
-  by_request_lem x y (GetPortStatus n) q = as_asked x (reads n.0) (by_request h y (GetPortStatus n)) q refl
-  by_request_lem x y ClearHubFeature q = quiet x (by_request h y ClearHubFeature) q refl
-  by_request_lem x y (ClearPortFeature n f) q = as_asked x (clear_asks n.0 f) (by_request h y (ClearPortFeature n f)) q (clear_report y n f)
-  by_request_lem x y (SetPortFeature n f) q = quiet x (by_request h y (SetPortFeature n f)) q (kept_report n (input.SetFeature f) refl)
-  by_request_lem x y (ClearTTBuffer k) q = quiet x (by_request h y (ClearTTBuffer k)) q refl
-  by_request_lem x y ResetTT q = quiet x (by_request h y ResetTT) q refl
+  by_request_lem x y (Err f) q = refusal x 2 refl
+  by_request_lem x y (Ok (SetConfiguration true)) q = quiet x (by_request h y (Ok (SetConfiguration true))) q (swept_kept sweep.Configure (λ p. refl))
+  by_request_lem x y (Ok (SetConfiguration false)) q = quiet x (by_request h y (Ok (SetConfiguration false))) q (swept_kept sweep.Unconfigure (λ p. refl))
+  by_request_lem x y (Ok GetConfiguration) q = quiet x (by_request h y (Ok GetConfiguration)) q refl
+  by_request_lem x y (Ok (GetHubDescriptor n)) q = quiet x (by_request h y (Ok (GetHubDescriptor n))) q refl
+  by_request_lem x y (Ok GetHubStatus) q = quiet x (by_request h y (Ok GetHubStatus)) q refl
+  by_request_lem x y (Ok (GetPortStatus n)) q = as_asked x (reads n.0) (by_request h y (Ok (GetPortStatus n))) q refl
+  by_request_lem x y (Ok ClearHubFeature) q = quiet x (by_request h y (Ok ClearHubFeature)) q refl
+  by_request_lem x y (Ok (ClearPortFeature n f)) q = as_asked x (clear_asks n.0 f) (by_request h y (Ok (ClearPortFeature n f))) q (clear_report y n f)
+  by_request_lem x y (Ok (SetPortFeature n f)) q = quiet x (by_request h y (Ok (SetPortFeature n f))) q (kept_report n (input.SetFeature f) refl)
+  by_request_lem x y (Ok (ClearTTBuffer k)) q = quiet x (by_request h y (Ok (ClearTTBuffer k))) q refl
+  by_request_lem x y (Ok ResetTT) q = quiet x (by_request h y (Ok ResetTT)) q refl
 
   control : (z : ℕ) (s : List ℕ) (room : ℕ) → Says (port_asks (Control z s room)) (requested h (lane_from z) (request_of h.identity.ports s))
   unfolding requested
   control z s room = go (h.configured || served_always r)
     where
-      r : Request
+      r : Result Request Fault
       r = request_of h.identity.ports s
 
       go : (x : Bool) → Says (port_asks (Control z s room)) (cond x (by_request h (lane_from z) r) (refuse 2 h))
@@ -348,19 +350,19 @@ module _ (g : History) (h : Hub) (tied : Tied g h) where
   unread : (x : PortAsks) (a : Answer) → x ≡ nothing → Shows x a g
   unread x a e = subst (λ (z : PortAsks). Shows z a g) (sym e) tt
 
-  request_shows : (x : PortAsks) (y : Lane) (r : Request) → AsksFor r x → InRange h.identity.ports r → Shows x (by_request h y r).answer g
-  request_shows x y (Wrong f) q i = not_data x _ refl
-  request_shows x y (SetConfiguration on) q i = unread x _ q
-  request_shows x y GetConfiguration q i = unread x _ q
-  request_shows x y (GetHubDescriptor n) q i = unread x _ q
-  request_shows x y GetHubStatus q i = unread x _ q
-  request_shows x y (GetPortStatus n) q i =
-      subst (λ (z : PortAsks). Shows z (by_request h y (GetPortStatus n)).answer g) (sym q) (λ one. status_shows (port_at h.ports n) ∙ tied n i)
-  request_shows x y ClearHubFeature q i = unread x _ q
-  request_shows x y (ClearPortFeature n f) q i = not_data x _ refl
-  request_shows x y (SetPortFeature n f) q i = unread x _ q
-  request_shows x y (ClearTTBuffer k) q i = unread x _ q
-  request_shows x y ResetTT q i = unread x _ q
+  request_shows : (x : PortAsks) (y : Lane) (r : Result Request Fault) → AsksFor r x → ((q : Request) → r ≡ Ok q → InRange h.identity.ports q) → Shows x (by_request h y r).answer g
+  request_shows x y (Err f) q i = not_data x _ refl
+  request_shows x y (Ok (SetConfiguration on)) q i = unread x _ q
+  request_shows x y (Ok GetConfiguration) q i = unread x _ q
+  request_shows x y (Ok (GetHubDescriptor n)) q i = unread x _ q
+  request_shows x y (Ok GetHubStatus) q i = unread x _ q
+  request_shows x y (Ok (GetPortStatus n)) q i =
+      subst (λ (z : PortAsks). Shows z (by_request h y (Ok (GetPortStatus n))).answer g) (sym q) (λ one. status_shows (port_at h.ports n) ∙ tied n (i _ refl))
+  request_shows x y (Ok ClearHubFeature) q i = unread x _ q
+  request_shows x y (Ok (ClearPortFeature n f)) q i = not_data x _ refl
+  request_shows x y (Ok (SetPortFeature n f)) q i = unread x _ q
+  request_shows x y (Ok (ClearTTBuffer k)) q i = unread x _ q
+  request_shows x y (Ok ResetTT) q i = unread x _ q
 
   control_shows : (z : ℕ) (s : List ℕ) (room : ℕ) → Shows (port_asks (Control z s room)) (requested h (lane_from z) (request_of h.identity.ports s)).answer g
   unfolding requested

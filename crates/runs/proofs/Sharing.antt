@@ -19,6 +19,7 @@ use Rattle.translator.specs.Translator.{at, tally}
 use Rattle.bools.specs.Bit.{bit}
 use Rattle.translator.specs.Limit.{held_by, AtLimit}
 use Rattle.numbers.specs.Named.{lane_from}
+use Rattle.std.specs.Prelude.{Option, Some, None}
 use Rattle.request.specs.declared.Kind.{Kind}
 use Rattle.request.specs.declared.Kind.TheVariants as kind
 use Rattle.request.specs.Setup.{setup_of}
@@ -127,18 +128,18 @@ module _ (hub : Hub) (valid : ValidHub hub) where
       let most : hub.translator.count ≤ 4 = valid.translator.most in
       not_all z e (all_in is_active hub.translator.count bs (omega (arith, four, most)) (λ i l. busy (slot_at hub i) (a.1 i l)))
 
-request_shared : (z : Lane) (x : Kind) (v : ℕ) (a : Answer) (h : History) → Shared (request_asks z x v) a h
-request_shared z kind.Unknown v a h = tt
-request_shared z kind.SetConfiguration v a h = tt
-request_shared z kind.GetConfiguration v a h = tt
-request_shared z kind.GetHubDescriptor v a h = tt
-request_shared z kind.GetHubStatus v a h = tt
-request_shared z kind.GetPortStatus v a h = tt
-request_shared z kind.ClearHubFeature v a h = tt
-request_shared z kind.ClearPortFeature v a h = tt
-request_shared z kind.SetPortFeature v a h = tt
-request_shared z kind.ClearTTBuffer v a h = tt
-request_shared z kind.ResetTT v a h = tt
+request_shared : (z : Lane) (x : Option Kind) (v : ℕ) (a : Answer) (h : History) → Shared (request_asks z x v) a h
+request_shared z None v a h = tt
+request_shared z (Some kind.SetConfiguration) v a h = tt
+request_shared z (Some kind.GetConfiguration) v a h = tt
+request_shared z (Some kind.GetHubDescriptor) v a h = tt
+request_shared z (Some kind.GetHubStatus) v a h = tt
+request_shared z (Some kind.GetPortStatus) v a h = tt
+request_shared z (Some kind.ClearHubFeature) v a h = tt
+request_shared z (Some kind.ClearPortFeature) v a h = tt
+request_shared z (Some kind.SetPortFeature) v a h = tt
+request_shared z (Some kind.ClearTTBuffer) v a h = tt
+request_shared z (Some kind.ResetTT) v a h = tt
 
 shared_step : (h : History) (hub : Hub) → Tied h hub.translator → ValidHub hub → (c : Call) → Shared (asks c) (step hub c).answer h
 unfolding asks

@@ -17,13 +17,16 @@ use Rattle.translator.specs.CompleteSplit.{complete_split}
 use Rattle.translator.specs.Launch.{launch}
 use Rattle.numbers.specs.Named.{is_lane, lane_from, pid_from, is_pid, is_type, is_flag, is_result, result_from, is_direction, direction_from}
 use Rattle.numbers.specs.Split.{split_named, split_from, key_named, key_from}
+use Rattle.std.specs.Prelude.{Option, Some, None}
 use Rattle.request.specs.declared.Kind.{Kind}
 use Rattle.request.specs.declared.Kind.TheVariants as kind
-use Rattle.request.specs.declared.Fault.TheVariants.{TypeOrCode, Value, Index, Length}
+use Rattle.request.specs.declared.Fault.TheVariants.{Value, Index, Length}
+use Rattle.std.specs.Prelude.{Result, Ok, Err}
+use Rattle.request.specs.declared.Fault.{Fault}
 use Rattle.request.specs.declared.Request.{Request}
-use Rattle.request.specs.declared.Request.TheVariants.{Wrong, SetConfiguration, GetConfiguration, GetHubDescriptor, GetHubStatus, GetPortStatus, ClearHubFeature, ClearPortFeature, SetPortFeature, ClearTTBuffer, ResetTT}
+use Rattle.request.specs.declared.Request.TheVariants.{SetConfiguration, GetConfiguration, GetHubDescriptor, GetHubStatus, GetPortStatus, ClearHubFeature, ClearPortFeature, SetPortFeature, ClearTTBuffer, ResetTT}
 use Rattle.request.specs.Setup.{setup_of}
-use Rattle.request.specs.Table.{kind_of, is_known, value_fits, index_fits, length_fits}
+use Rattle.request.specs.Table.{kind_of, value_fits, index_fits, length_fits}
 use Rattle.request.specs.Request.{meaning, checked, request_of}
 use Rattle.hub.specs.declared.Hub.{Hub}
 use Rattle.hub.specs.Hub.{with_ports, with_translator, configured_as, reset_hub, ticked_hub}
@@ -67,21 +70,20 @@ complete-key z a e d named =
 
 -- ---- what a request that is served asks of the translator
 
-abbrev pub AsksFor : Lane → Request → Asks → Type 0
-AsksFor y (Wrong f) x = Unit {0}
-AsksFor y (SetConfiguration on) x = x ≡ empties
-AsksFor y GetConfiguration x = x ≡ nothing
-AsksFor y (GetHubDescriptor n) x = x ≡ nothing
-AsksFor y GetHubStatus x = x ≡ nothing
-AsksFor y (GetPortStatus n) x = x ≡ nothing
-AsksFor y ClearHubFeature x = x ≡ nothing
-AsksFor y (ClearPortFeature n f) x = x ≡ nothing
-AsksFor y (SetPortFeature n f) x = x ≡ nothing
-AsksFor y (ClearTTBuffer k) x = x ≡ clears (keyed y k)
-AsksFor y ResetTT x = x ≡ resets y
+abbrev pub AsksFor : Lane → Result Request Fault → Asks → Type 0
+AsksFor y (Err f) x = Unit {0}
+AsksFor y (Ok (SetConfiguration on)) x = x ≡ empties
+AsksFor y (Ok GetConfiguration) x = x ≡ nothing
+AsksFor y (Ok (GetHubDescriptor n)) x = x ≡ nothing
+AsksFor y (Ok GetHubStatus) x = x ≡ nothing
+AsksFor y (Ok (GetPortStatus n)) x = x ≡ nothing
+AsksFor y (Ok ClearHubFeature) x = x ≡ nothing
+AsksFor y (Ok (ClearPortFeature n f)) x = x ≡ nothing
+AsksFor y (Ok (SetPortFeature n f)) x = x ≡ nothing
+AsksFor y (Ok (ClearTTBuffer k)) x = x ≡ clears (keyed y k)
+AsksFor y (Ok ResetTT) x = x ≡ resets y
 
-meaning-asks : (y : Lane) (k : Kind) (v i l : ℕ) → AsksFor y (meaning k v i l) (request_asks y k v)
-meaning-asks y kind.Unknown v i l = tt
+meaning-asks : (y : Lane) (k : Kind) (v i l : ℕ) → AsksFor y (Ok (meaning k v i l)) (request_asks y (Some k) v)
 meaning-asks y kind.SetConfiguration v i l = refl
 meaning-asks y kind.GetConfiguration v i l = refl
 meaning-asks y kind.GetHubDescriptor v i l = refl
@@ -96,18 +98,26 @@ meaning-asks y kind.ResetTT v i l = refl
 pub request_asks_lem : (n z : ℕ) (s : List ℕ) (room : ℕ) → AsksFor (lane_from z) (request_of n s) (asks (Control z s room))
 unfolding asks request_of checked
 request_asks_lem n z s room =
-    go (is_known k) (value_fits k (setup_of s).value) (index_fits n k (setup_of s).index) (length_fits k (setup_of s).length)
+    go (kind_of (setup_of s).requesttype (setup_of s).code)
   where
-    k : Kind
-    k = kind_of (setup_of s).requesttype (setup_of s).code
+    v : ℕ
+    v = (setup_of s).value
 
-    go : (a b c d : Bool)
-        → AsksFor (lane_from z) (cond a (cond b (cond c (cond d (meaning k (setup_of s).value (setup_of s).index (setup_of s).length) (Wrong Length)) (Wrong Index)) (Wrong Value)) (Wrong TypeOrCode)) (request_asks (lane_from z) k (setup_of s).value)
-    go true true true true = meaning-asks (lane_from z) k (setup_of s).value (setup_of s).index (setup_of s).length
-    go true true true false = tt
-    go true true false d = tt
-    go true false c d = tt
-    go false b c d = tt
+    i : ℕ
+    i = (setup_of s).index
+
+    l : ℕ
+    l = (setup_of s).length
+
+    fields : (k : Kind) (b c d : Bool) → AsksFor (lane_from z) (cond b (cond c (cond d (Ok (meaning k v i l)) (Err Length)) (Err Index)) (Err Value)) (request_asks (lane_from z) (Some k) v)
+    fields k true true true = meaning-asks (lane_from z) k v i l
+    fields k true true false = tt
+    fields k true false d = tt
+    fields k false c d = tt
+
+    go : (k : Option Kind) → AsksFor (lane_from z) (checked n k v i l) (request_asks (lane_from z) k v)
+    go None = tt
+    go (Some k) = fields k (value_fits k v) (index_fits n k i) (length_fits k l)
 
 -- ---- one call
 
@@ -118,25 +128,25 @@ module _ (h : History) (hub : Hub) (tied : Tied h hub.translator) where
   refusal : (c : Call) (n : ℕ) → Refused (plain_answer n) → KeptBy c (refuse n hub)
   refusal c n r = refused_kept h hub.translator tied c (plain_answer n) r
 
-  by_request_lem : (c : Call) (y : Lane) (r : Request) → AsksFor y r (asks c) → KeptBy c (by_request hub y r)
+  by_request_lem : (c : Call) (y : Lane) (r : Result Request Fault) → AsksFor y r (asks c) → KeptBy c (by_request hub y r)
   unfolding configured_as
-  by_request_lem c y (Wrong f) q = refusal c 2 (record { not_0 = refl; not_1 = refl; not_9 = refl })
-  by_request_lem c y (SetConfiguration on) q = empty_said h hub.translator tied c q
-  by_request_lem c y GetConfiguration q = nothing_kept h hub.translator tied c _ q
-  by_request_lem c y (GetHubDescriptor n) q = nothing_kept h hub.translator tied c _ q
-  by_request_lem c y GetHubStatus q = nothing_kept h hub.translator tied c _ q
-  by_request_lem c y (GetPortStatus n) q = nothing_kept h hub.translator tied c _ q
-  by_request_lem c y ClearHubFeature q = nothing_kept h hub.translator tied c _ q
-  by_request_lem c y (ClearPortFeature n f) q = nothing_kept h hub.translator tied c _ q
-  by_request_lem c y (SetPortFeature n f) q = nothing_kept h hub.translator tied c _ q
-  by_request_lem c y (ClearTTBuffer k) q = clear_said h hub.translator tied c (keyed y k) q
-  by_request_lem c y ResetTT q = reset_said h hub.translator tied c y q
+  by_request_lem c y (Err f) q = refusal c 2 (record { not_0 = refl; not_1 = refl; not_9 = refl })
+  by_request_lem c y (Ok (SetConfiguration on)) q = empty_said h hub.translator tied c q
+  by_request_lem c y (Ok GetConfiguration) q = nothing_kept h hub.translator tied c _ q
+  by_request_lem c y (Ok (GetHubDescriptor n)) q = nothing_kept h hub.translator tied c _ q
+  by_request_lem c y (Ok GetHubStatus) q = nothing_kept h hub.translator tied c _ q
+  by_request_lem c y (Ok (GetPortStatus n)) q = nothing_kept h hub.translator tied c _ q
+  by_request_lem c y (Ok ClearHubFeature) q = nothing_kept h hub.translator tied c _ q
+  by_request_lem c y (Ok (ClearPortFeature n f)) q = nothing_kept h hub.translator tied c _ q
+  by_request_lem c y (Ok (SetPortFeature n f)) q = nothing_kept h hub.translator tied c _ q
+  by_request_lem c y (Ok (ClearTTBuffer k)) q = clear_said h hub.translator tied c (keyed y k) q
+  by_request_lem c y (Ok ResetTT) q = reset_said h hub.translator tied c y q
 
   control : (z : ℕ) (s : List ℕ) (room : ℕ) → KeptBy (Control z s room) (requested hub (lane_from z) (request_of hub.identity.ports s))
   unfolding requested
   control z s room = go (hub.configured || served_always r)
     where
-      r : Request
+      r : Result Request Fault
       r = request_of hub.identity.ports s
 
       go : (x : Bool) → KeptBy (Control z s room) (cond x (by_request hub (lane_from z) r) (refuse 2 hub))

@@ -3,7 +3,6 @@ use Prim.Native.Nat.{ℕ, zero, suc, ◌+◌}
 use native.Mathlib.Omega.{arith}
 use mathlib.Core.Path.{◌≡◌, refl, sym, ◌∙◌, ap, subst}
 use mathlib.Core.Logic.{◌⊎◌, inl, inr}
-use mathlib.Core.Option.{Option, none, some}
 use mathlib.Core.List.{List, [], ◌∷◌}
 use mathlib.Core.Bool.{Bool, true, false, cond, not, ◌&&◌, ◌||◌, and-eq-true_iff, false≢true, true≢false, or-true}
 use borrow.Author.Tests.{eq-eqb}
@@ -17,10 +16,9 @@ use Rattle.buffer.specs.declared.Buffer.{Buffer}
 use Rattle.buffer.specs.Same.{same_key}
 use Rattle.buffer.specs.Buffer.{is_active, holds}
 use Rattle.buffer.proofs.Keys.{same_refl, same_true}
+use Rattle.buffer.specs.declared.BufferNumber.{BufferNumber}
 use Rattle.translator.specs.declared.Translator.{Translator}
 use Rattle.translator.specs.declared.LowSide.{LowSide}
-use Rattle.translator.specs.declared.Found.{Found}
-use Rattle.translator.specs.declared.Found.TheVariants.{Nowhere, At}
 use Rattle.translator.specs.Translator.{at, tally}
 use Rattle.bools.specs.Bit.{bit}
 use Rattle.translator.specs.Search.{find}
@@ -28,6 +26,7 @@ use Rattle.translator.specs.CompleteSplit.{complete_at, complete_split}
 use Rattle.translator.proofs.Finding.{FindSays, find_says}
 use Rattle.numbers.specs.Named.{lane_from}
 use Rattle.numbers.specs.Split.{key_from}
+use Rattle.std.specs.Prelude.{Some, None, Option}
 use Rattle.request.specs.declared.Kind.{Kind}
 use Rattle.request.specs.declared.Kind.TheVariants as kind
 use Rattle.request.specs.Setup.{setup_of}
@@ -60,11 +59,11 @@ held_or k (b ∷ bs) = go (holds k b.slot) refl (held_or k bs)
     go : (x : Bool) → holds k b.slot ≡ x → ((i : ℕ) × (holds k (at bs i).slot ≡ true)) ⊎ Unheld k bs → ((i : ℕ) × (holds k (at (b ∷ bs) i).slot ≡ true)) ⊎ Unheld k (b ∷ bs)
     go true e r = inl (0, e)
     go false e (inl f) = inl (suc f.0, f.1)
-    go false e (inr u) = inr none
+    go false e (inr u) = inr None
       where
-        none : (i : ℕ) → holds k (at (b ∷ bs) i).slot ≡ false
-        none zero = e
-        none (suc i) = u i
+        None : (i : ℕ) → holds k (at (b ∷ bs) i).slot ≡ false
+        None zero = e
+        None (suc i) = u i
 
 holder : {h : History} {bs : List Buffer} {low : LowSide} → Inv h bs low → (k : Key) → is_open h k ≡ true → (i : ℕ) × (holds k (at bs i).slot ≡ true)
 holder {h} {bs} inv k o = go (held_or k bs)
@@ -82,14 +81,14 @@ active_holds (Ready s r) e = same_refl (key_in (Ready s r))
 active_holds (Old s r) e = absurd (false≢true e)
 
 abbrev place_of : Option ℕ → ℕ
-place_of none = 0
-place_of (some s) = s
+place_of None = 0
+place_of (Some s) = s
 
 -- f tells of a buffer that is pending or ready, and p of a start-split, whether its key passes m; nothing else passes f
 pub record ByKey (h : History) (m : Key → Bool) (f : Slot → Bool) (p : ℕ → Bool) : Type 0 where
   pub active : (s : Slot) → f s ≡ true → is_active s ≡ true
   pub of_slot : (s : Slot) → is_active s ≡ true → f s ≡ m (key_in s)
-  pub of_place : (k : Key) (s : ℕ) → last_stored h k ≡ some s → p s ≡ m k
+  pub of_place : (k : Key) (s : ℕ) → last_stored h k ≡ Some s → p s ≡ m k
 
 pub waiting_count : (h : History) (t : Translator) → Tied h t → (m : Key → Bool) (f : Slot → Bool) (p : ℕ → Bool) → ByKey h m f p
     → count_to (λ s. p s && waits_at h s) (length h) ≡ tally f t.buffers
@@ -138,7 +137,7 @@ waiting_count h t tied m f p told = matched f (empty (f Empty) refl) t.buffers (
           marked = λ i e. ap (λ (s : ℕ). p s && waits_at h s) (placed i e) ∙ waits_at_lem i e;
           apart = λ i j e g q.
               let same : key i ≡ key j =
-              one_key h (key i) (key j) (good i e).place (good i e).placed ((good j g).placed ∙ ap some (sym (placed j g) ∙ (sym q ∙ placed i e))) in
+              one_key h (key i) (key j) (good i e).place (good i e).placed ((good j g).placed ∙ ap Some (sym (placed j g) ∙ (sym q ∙ placed i e))) in
               tied.valid.keys (key j) i j
               (ap (λ (k : Key). holds k (slot i)) (sym same) ∙ active_holds (slot i) (act i e))
               (active_holds (slot j) (act j g));
@@ -153,17 +152,17 @@ active_count h t tied =
 
 -- ---- what was answered or emptied was stored
 
-stored_is : (h : History) (k : Key) (s : ℕ) → last_stored h k ≡ some s → is_stored_at h s ≡ true
+stored_is : (h : History) (k : Key) (s : ℕ) → last_stored h k ≡ Some s → is_stored_at h s ≡ true
 unfolding last_stored is_stored_at stores stores_it
 stored_is [] k s l = let z : ◌≡◌ {A = ℕ} 0 1 = cc in absurd (omega arith)
 stored_is (e ∷ h) k s l = go (asks e.call) l (stored_is h k s)
   where
-    go : (x : Asks) → cond (stores x e.answer k (is_open h k)) (some (length h)) (last_stored h k) ≡ some s → (last_stored h k ≡ some s → is_stored_at h s ≡ true)
+    go : (x : Asks) → cond (stores x e.answer k (is_open h k)) (Some (length h)) (last_stored h k) ≡ Some s → (last_stored h k ≡ Some s → is_stored_at h s ≡ true)
         → (stores_it x e.answer h s || is_stored_at h s) ≡ true
     go nothing l ih = ih l
     go (starts k') l ih = by ((is_done e.answer && same_key k' k) && not (is_open h k)) refl l
       where
-        by : (t : Bool) → ((is_done e.answer && same_key k' k) && not (is_open h k)) ≡ t → cond t (some (length h)) (last_stored h k) ≡ some s
+        by : (t : Bool) → ((is_done e.answer && same_key k' k) && not (is_open h k)) ≡ t → cond t (Some (length h)) (last_stored h k) ≡ Some s
             → (((is_done e.answer && same_key k' k') && not (is_open h k')) && eqb s (length h) || is_stored_at h s) ≡ true
         by false p l = rw (ih l) (or-true (((is_done e.answer && same_key k' k') && not (is_open h k')) && eqb s (length h)))
         by true p l =
@@ -222,18 +221,18 @@ is_complete (clears k) = false
 is_complete (resets z) = false
 is_complete empties = false
 
-pub request_else : (z : Lane) (x : Kind) (v : ℕ) → is_complete (request_asks z x v) ≡ false
-request_else z kind.Unknown v = refl
-request_else z kind.SetConfiguration v = refl
-request_else z kind.GetConfiguration v = refl
-request_else z kind.GetHubDescriptor v = refl
-request_else z kind.GetHubStatus v = refl
-request_else z kind.GetPortStatus v = refl
-request_else z kind.ClearHubFeature v = refl
-request_else z kind.ClearPortFeature v = refl
-request_else z kind.SetPortFeature v = refl
-request_else z kind.ClearTTBuffer v = refl
-request_else z kind.ResetTT v = refl
+pub request_else : (z : Lane) (x : Option Kind) (v : ℕ) → is_complete (request_asks z x v) ≡ false
+request_else z None v = refl
+request_else z (Some kind.SetConfiguration) v = refl
+request_else z (Some kind.GetConfiguration) v = refl
+request_else z (Some kind.GetHubDescriptor) v = refl
+request_else z (Some kind.GetHubStatus) v = refl
+request_else z (Some kind.GetPortStatus) v = refl
+request_else z (Some kind.ClearHubFeature) v = refl
+request_else z (Some kind.ClearPortFeature) v = refl
+request_else z (Some kind.SetPortFeature) v = refl
+request_else z (Some kind.ClearTTBuffer) v = refl
+request_else z (Some kind.ResetTT) v = refl
 
 completes_inj : (k l : Key) → completes k ≡ completes l → k ≡ l
 completes_inj k l e = cc
@@ -253,10 +252,10 @@ complete-held hub (Complete z a e d room) k q r =
     (find_says (holds (key_from z a e d)) hub.translator.count hub.translator.buffers) g))
     r
   where
-    found : (f : Found) → FindSays (holds (key_from z a e d)) hub.translator.count hub.translator.buffers f
+    found : (f : Option BufferNumber) → FindSays (holds (key_from z a e d)) hub.translator.count hub.translator.buffers f
         → gives_result (completed_as hub (complete_at hub.translator f)).answer ≡ true → Held hub (key_from z a e d)
-    found Nowhere s r = absurd (false≢true r)
-    found (At n) s r = (n.0, s.passes)
+    found None s r = absurd (false≢true r)
+    found (Some n) s r = (n.0, s.passes)
 complete-held hub (Control z s room) k q r = absurd (false≢true (sym (request_else (lane_from z) (kind_of (setup_of s).requesttype (setup_of s).code) (setup_of s).value) ∙ ap is_complete q))
 complete-held hub (Poll z room) k q r = absurd (false≢true (ap is_complete q))
 complete-held hub (Start z p t f g a e l) k q r = absurd (false≢true (ap is_complete q))
@@ -278,7 +277,7 @@ never_step h hub tied never c s p = go (asks c) refl p
     again true false an p q = never s p
     again true true an p q = rw q (never s p)
 
-    held : (k : Key) → last_stored h k ≡ some s → (i : ℕ) → holds k (at hub.translator.buffers i).slot ≡ true → is_emptied_at h s ≡ false
+    held : (k : Key) → last_stored h k ≡ Some s → (i : ℕ) → holds k (at hub.translator.buffers i).slot ≡ true → is_emptied_at h s ≡ false
     held k l i hd = by (is_active (at hub.translator.buffers i).slot) refl
       where
         g : Good h k (at hub.translator.buffers i)

@@ -1,6 +1,6 @@
 -- Demand 3 over whole runs of the rules. Assumes nothing.
 use mathlib.Core.Path.{◌≡◌, refl, sym, ◌∙◌, ap, ap₂}
-use mathlib.Core.Option.{Option, some}
+use Rattle.std.specs.Prelude.{Option, Some}
 use mathlib.Core.List.{List, [], ◌∷◌, map}
 use mathlib.Core.Bool.{Bool, true, false}
 use lib.ListN.{length}
@@ -55,11 +55,11 @@ module _ (m : Marks) where
   shown_same t u e =
       sym (shown_hide t.buffers t.low) ∙ ap (λ (x : Translator). shown m x.buffers x.low) e ∙ shown_hide u.buffers u.low
 
-  for_key : {x y : For} → ◌≡◌ {A = Option For} (some x) (some y) → x.key ≡ y.key
+  for_key : {x y : For} → ◌≡◌ {A = Option For} (Some x) (Some y) → x.key ≡ y.key
   for_key {x} {y} e = let p : x ≡ y = cc in ap (λ (z : For). z.key) p
 
   -- a delivery for a marked key may be blanked
-  shown_for : (h : History) (t : Translator) (s : For) → Tied h t → last_for h ≡ some s → m s.key ≡ true
+  shown_for : (h : History) (t : Translator) (s : For) → Tied h t → last_for h ≡ Some s → m s.key ≡ true
       → shown m t.buffers t.low ≡ true
   shown_for h t s tied f k = go t.low tied.inv.low_ok
     where

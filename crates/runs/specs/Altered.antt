@@ -23,8 +23,10 @@ use Rattle.translator.specs.Clear.{clear_buffer}
 use Rattle.translator.specs.ResetLane.{reset_lane}
 use Rattle.numbers.specs.Named.{lane_from, event_from}
 use Rattle.numbers.specs.Split.{split_from, key_from}
+use Rattle.std.specs.Prelude.{Result, Ok, Err}
+use Rattle.request.specs.declared.Fault.{Fault}
 use Rattle.request.specs.declared.Request.{Request}
-use Rattle.request.specs.declared.Request.TheVariants.{Wrong, SetConfiguration, GetConfiguration, GetHubDescriptor, GetHubStatus, GetPortStatus, ClearHubFeature, ClearPortFeature, SetPortFeature, ClearTTBuffer, ResetTT}
+use Rattle.request.specs.declared.Request.TheVariants.{SetConfiguration, GetConfiguration, GetHubDescriptor, GetHubStatus, GetPortStatus, ClearHubFeature, ClearPortFeature, SetPortFeature, ClearTTBuffer, ResetTT}
 use Rattle.request.specs.Request.{request_of}
 use Rattle.hub.specs.declared.Hub.{Hub}
 use Rattle.hub.specs.Hub.{with_translator}
@@ -94,18 +96,18 @@ with_poll g = record { event = own_ports.event; status = own_ports.status; set =
 
 -- ---- the hub over them
 
-abbrev pub request_by : TranslatorRules → PortRules → Hub → Lane → Request → Outcome
-request_by r q h y (Wrong f) = by_request h y (Wrong f)
-request_by r q h y (SetConfiguration on) = by_request h y (SetConfiguration on)
-request_by r q h y GetConfiguration = by_request h y GetConfiguration
-request_by r q h y (GetHubDescriptor n) = by_request h y (GetHubDescriptor n)
-request_by r q h y GetHubStatus = by_request h y GetHubStatus
-request_by r q h y (GetPortStatus n) = q.status h n
-request_by r q h y ClearHubFeature = by_request h y ClearHubFeature
-request_by r q h y (ClearPortFeature n f) = by_request h y (ClearPortFeature n f)
-request_by r q h y (SetPortFeature n f) = q.set h n f
-request_by r q h y (ClearTTBuffer k) = done (with_translator h (r.clear h.translator (keyed y k)))
-request_by r q h y ResetTT = done (with_translator h (r.reset h.translator y))
+abbrev pub request_by : TranslatorRules → PortRules → Hub → Lane → Result Request Fault → Outcome
+request_by r q h y (Err f) = by_request h y (Err f)
+request_by r q h y (Ok (SetConfiguration on)) = by_request h y (Ok (SetConfiguration on))
+request_by r q h y (Ok GetConfiguration) = by_request h y (Ok GetConfiguration)
+request_by r q h y (Ok (GetHubDescriptor n)) = by_request h y (Ok (GetHubDescriptor n))
+request_by r q h y (Ok GetHubStatus) = by_request h y (Ok GetHubStatus)
+request_by r q h y (Ok (GetPortStatus n)) = q.status h n
+request_by r q h y (Ok ClearHubFeature) = by_request h y (Ok ClearHubFeature)
+request_by r q h y (Ok (ClearPortFeature n f)) = by_request h y (Ok (ClearPortFeature n f))
+request_by r q h y (Ok (SetPortFeature n f)) = q.set h n f
+request_by r q h y (Ok (ClearTTBuffer k)) = done (with_translator h (r.clear h.translator (keyed y k)))
+request_by r q h y (Ok ResetTT) = done (with_translator h (r.reset h.translator y))
 
 abbrev pub served_by : TranslatorRules → PortRules → Hub → Call → Outcome
 served_by r q h (Control z s room) =

@@ -1,6 +1,5 @@
 -- Demand 3. A reader must believe: the two halves below are its words.
-use Rattle.std.specs.Prelude.{ℕ, ◌≡◌, List, [], ◌∷◌, Bool, true, length}
-use Rattle.std.proofs.Math.Option.{Option, some}
+use Rattle.std.specs.Prelude.{ℕ, ◌≡◌, List, [], ◌∷◌, Bool, true, length, Option, Some}
 use Rattle.buffer.specs.declared.Lane.{Lane}
 use Rattle.buffer.specs.declared.Key.{Key}
 use Rattle.buffer.specs.Same.{same_key}
@@ -28,7 +27,7 @@ pub data SameCall (m : Marks) (l : Option For) : Call → Call → Type 0 where
   same : (c : Call) → SameCall m l c c
   start : (z p t f g a e : ℕ) (x y : List ℕ) → m (key_of (lane_from z) a e (direction_of (pid_from p))) ≡ true → length x ≡ length y
       → SameCall m l (Start z p t f g a e x) (Start z p t f g a e y)
-  deliver : (r : ℕ) (x y : List ℕ) (s : For) → l ≡ some s → m s.key ≡ true → length x ≡ length y
+  deliver : (r : ℕ) (x y : List ℕ) (s : For) → l ≡ Some s → m s.key ≡ true → length x ≡ length y
       → SameCall m l (Deliver r x) (Deliver r y)
 
 unfoldable pub SameCalls : Marks → History → List Event → List Event → Type 0

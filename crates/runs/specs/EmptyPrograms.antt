@@ -1,8 +1,8 @@
 -- The four empty programs of document 01, two more, and that demand 2 shuts each out. A reader must believe: each is the program that its
 -- comment names.
-use Rattle.std.specs.Prelude.{◌≡◌, map}
-use Rattle.translator.specs.declared.Earliest.{Earliest}
-use Rattle.translator.specs.declared.Earliest.TheVariants.{NonePending, Stored}
+use Prim.Native.Nat.{ℕ}
+use Rattle.std.specs.Prelude.{◌≡◌, map, None, Option, Some}
+use Rattle.buffer.specs.declared.BufferNumber.{BufferNumber}
 use Rattle.translator.specs.Order.{earliest}
 use Rattle.hub.specs.declared.Hub.{Hub}
 use Rattle.hub.specs.Call.{Call, Control, Poll, Start, Complete, Launch, Deliver, Event, Tick, BusReset, Answer, Outcome, refuse}
@@ -24,9 +24,9 @@ abbrev pub leaves_alone : Hub → Call → Outcome
 leaves_alone h c = record { next = h; answer = (step h c).answer }
 
 -- the hub left by a start-split: as it was where one is already pending
-abbrev pub pretended_by : Earliest → Hub → Hub → Hub
-pretended_by NonePending h g = g
-pretended_by (Stored n p) h g = h
+abbrev pub pretended_by : Option (BufferNumber × ℕ) → Hub → Hub → Hub
+pretended_by None h g = g
+pretended_by (Some (n, p)) h g = h
 
 -- do the first start properly and only pretend for later ones
 abbrev pub pretends : Hub → Call → Outcome

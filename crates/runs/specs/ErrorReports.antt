@@ -6,6 +6,7 @@ use Rattle.port.specs.declared.ChangeBit.TheVariants.{Enable}
 use Rattle.port.specs.declared.LineEvent.TheVariants.{PortError}
 use Rattle.port.specs.Words.{bits_of}
 use Rattle.numbers.specs.Written.{event_number}
+use Rattle.std.specs.Prelude.{Option, Some, None}
 use Rattle.request.specs.declared.Kind.{Kind}
 use Rattle.request.specs.declared.Kind.TheVariants as kind
 use Rattle.request.specs.Setup.{setup_of}
@@ -28,18 +29,18 @@ pub data PortAsks : Type 0 where
   reads : ℕ → PortAsks
 
 -- a request's kind, its wValue and its wIndex
-abbrev pub request_asks : Kind → ℕ → ℕ → PortAsks
-request_asks kind.Unknown v i = nothing
-request_asks kind.SetConfiguration v i = nothing
-request_asks kind.GetConfiguration v i = nothing
-request_asks kind.GetHubDescriptor v i = nothing
-request_asks kind.GetHubStatus v i = nothing
-request_asks kind.GetPortStatus v i = reads i
-request_asks kind.ClearHubFeature v i = nothing
-request_asks kind.ClearPortFeature v i = cond (eqb v (change_number Enable)) (clears i) nothing
-request_asks kind.SetPortFeature v i = nothing
-request_asks kind.ClearTTBuffer v i = nothing
-request_asks kind.ResetTT v i = nothing
+abbrev pub request_asks : Option Kind → ℕ → ℕ → PortAsks
+request_asks None v i = nothing
+request_asks (Some kind.SetConfiguration) v i = nothing
+request_asks (Some kind.GetConfiguration) v i = nothing
+request_asks (Some kind.GetHubDescriptor) v i = nothing
+request_asks (Some kind.GetHubStatus) v i = nothing
+request_asks (Some kind.GetPortStatus) v i = reads i
+request_asks (Some kind.ClearHubFeature) v i = nothing
+request_asks (Some kind.ClearPortFeature) v i = cond (eqb v (change_number Enable)) (clears i) nothing
+request_asks (Some kind.SetPortFeature) v i = nothing
+request_asks (Some kind.ClearTTBuffer) v i = nothing
+request_asks (Some kind.ResetTT) v i = nothing
 
 unfoldable pub port_asks : Call → PortAsks
 port_asks (Control z s room) = request_asks (kind_of (setup_of s).requesttype (setup_of s).code) (setup_of s).value (setup_of s).index

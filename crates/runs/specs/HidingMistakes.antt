@@ -1,6 +1,6 @@
 -- Rules with one mistake each, and the part of demand 3 that shuts each out: so no part of it can be left out.
 -- A reader must believe: each rule below is the rules' but for what its comment says.
-use Rattle.std.specs.Prelude.{ℕ, ◌≡◌, Bool, true, false, cond, List, [], ◌∷◌, eqb, get_or, set}
+use Rattle.std.specs.Prelude.{ℕ, ◌≡◌, Bool, true, false, cond, List, [], ◌∷◌, eqb, get_or, set, Err, Ok, Result}
 use Rattle.payload.specs.Payload.{payload_of}
 use Rattle.buffer.specs.declared.DeviceResult.{DeviceResult}
 use Rattle.buffer.specs.declared.DeviceResult.TheVariants.{Failure, Ack, Nak, Stall, Data0, Data1}
@@ -9,12 +9,12 @@ use Rattle.buffer.specs.declared.Slot.{Slot}
 use Rattle.buffer.specs.declared.Slot.TheVariants.{Empty, Pending, Ready, Old}
 use Rattle.buffer.specs.declared.BufferNumber.{BufferNumber}
 use Rattle.buffer.specs.Lengths.{suits}
+use Rattle.translator.specs.declared.NoResult.{NoResult}
 use Rattle.translator.specs.declared.Translator.{Translator}
 use Rattle.translator.specs.declared.LowSide.{LowSide}
 use Rattle.translator.specs.declared.LowSide.TheVariants.{Idle, Running, Abandoned}
-use Rattle.translator.specs.declared.CompleteAnswer.{CompleteAnswer}
-use Rattle.translator.specs.declared.CompleteAnswer.TheVariants.{NoMatch, NotYet, Gives}
-use Rattle.translator.specs.declared.DeliverAnswer.TheVariants.{NotInThisState, Done}
+use Rattle.translator.specs.declared.NoResult.TheVariants.{NoMatch, NotYet}
+use Rattle.translator.specs.declared.NotDelivered.TheVariants.{NotInThisState}
 use Rattle.translator.specs.declared.Completed.{Completed}
 use Rattle.translator.specs.declared.Launched.{Launched}
 use Rattle.translator.specs.declared.Delivered.{Delivered}
@@ -105,10 +105,10 @@ as_data1 Stall = Stall
 as_data1 Data0 = Data1
 as_data1 Data1 = Data1
 
-abbrev pub answered_as_data1 : CompleteAnswer → CompleteAnswer
-answered_as_data1 NoMatch = NoMatch
-answered_as_data1 NotYet = NotYet
-answered_as_data1 (Gives r) = Gives (as_data1 r)
+abbrev pub answered_as_data1 : Result DeviceResult NoResult → Result DeviceResult NoResult
+answered_as_data1 (Err NoMatch) = Err NoMatch
+answered_as_data1 (Err NotYet) = Err NotYet
+answered_as_data1 (Ok r) = Ok (as_data1 r)
 
 abbrev pub other_pid : TranslatorRules
 other_pid = with_complete (λ t k. let o = complete_split t k in record { next = o.next; answer = answered_as_data1 o.answer; payload = o.payload })
@@ -120,7 +120,7 @@ result_in t r l n s =
     cond (suits s.pid r)
     (record {
       next = record { buffers = set t.buffers n.0 (record { slot = Ready s r; payload = payload_of l }); count = t.count; low = t.low };
-      answer = Done;
+      answer = Ok tt;
     })
     (undelivered t NotInThisState)
 

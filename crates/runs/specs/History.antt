@@ -1,8 +1,7 @@
 -- What the calls and answers of a run say, and nothing else: which keys are open, which start-splits were stored, what a launch and a
 -- delivery are for. A history has the latest event first; a start-split is named by the number of events before it.
 -- A reader must believe: these are the words of document 01, "How a promise is judged".
-use Rattle.std.specs.Prelude.{ℕ, List, [], ◌∷◌, ◌++◌, Bool, false, cond, not, ◌&&◌, ◌||◌, length, eqb}
-use Rattle.std.proofs.Math.Option.{Option, none, some}
+use Rattle.std.specs.Prelude.{ℕ, List, [], ◌∷◌, ◌++◌, Bool, false, cond, not, ◌&&◌, ◌||◌, length, eqb, Option}
 use Rattle.buffer.specs.declared.Lane.{Lane}
 use Rattle.buffer.specs.declared.Direction.{Direction}
 use Rattle.buffer.specs.declared.Key.{Key}
@@ -12,6 +11,7 @@ use Rattle.buffer.specs.Key.{key_with, same_lane, direction_of}
 use Rattle.buffer.specs.Lengths.{is_data}
 use Rattle.translator.specs.Answers.{result_pid}
 use Rattle.numbers.specs.Named.{lane_from, pid_from, result_from, direction_from}
+use Rattle.std.specs.Prelude.{Some, None}
 use Rattle.request.specs.declared.Kind.{Kind}
 use Rattle.request.specs.declared.Kind.TheVariants as kind
 use Rattle.request.specs.Setup.{setup_of}
@@ -44,18 +44,18 @@ abbrev pub key_of : Lane → ℕ → ℕ → Direction → Key
 key_of z a e d = key_with z (record { 0 = a }) e d
 
 -- a request's lane, kind and wValue
-abbrev pub request_asks : Lane → Kind → ℕ → Asks
-request_asks z kind.Unknown v = nothing
-request_asks z kind.SetConfiguration v = empties
-request_asks z kind.GetConfiguration v = nothing
-request_asks z kind.GetHubDescriptor v = nothing
-request_asks z kind.GetHubStatus v = nothing
-request_asks z kind.GetPortStatus v = nothing
-request_asks z kind.ClearHubFeature v = nothing
-request_asks z kind.ClearPortFeature v = nothing
-request_asks z kind.SetPortFeature v = nothing
-request_asks z kind.ClearTTBuffer v = clears (keyed z (pipe_in v))
-request_asks z kind.ResetTT v = resets z
+abbrev pub request_asks : Lane → Option Kind → ℕ → Asks
+request_asks z None v = nothing
+request_asks z (Some kind.SetConfiguration) v = empties
+request_asks z (Some kind.GetConfiguration) v = nothing
+request_asks z (Some kind.GetHubDescriptor) v = nothing
+request_asks z (Some kind.GetHubStatus) v = nothing
+request_asks z (Some kind.GetPortStatus) v = nothing
+request_asks z (Some kind.ClearHubFeature) v = nothing
+request_asks z (Some kind.ClearPortFeature) v = nothing
+request_asks z (Some kind.SetPortFeature) v = nothing
+request_asks z (Some kind.ClearTTBuffer) v = clears (keyed z (pipe_in v))
+request_asks z (Some kind.ResetTT) v = resets z
 
 unfoldable pub asks : Call → Asks
 asks (Control z s room) = request_asks (lane_from z) (kind_of (setup_of s).requesttype (setup_of s).code) (setup_of s).value
@@ -110,8 +110,8 @@ stores empties a k o = false
 
 -- the start-split last stored under k
 unfoldable pub last_stored : History → Key → Option ℕ
-last_stored [] k = none
-last_stored (e ∷ h) k = cond (stores (asks e.call) e.answer k (is_open h k)) (some (length h)) (last_stored h k)
+last_stored [] k = None
+last_stored (e ∷ h) k = cond (stores (asks e.call) e.answer k (is_open h k)) (Some (length h)) (last_stored h k)
 
 -- ---- what a launch and a delivery are for
 
@@ -124,7 +124,7 @@ unfoldable pub for_after : Asks → Answer → History → Option For → Option
 for_after nothing a h l = l
 for_after (starts k) a h l = l
 for_after (completes k) a h l = l
-for_after launches a h l = cond (eqb a.number 1) (some (record { key = answer_key a; place = last_stored h (answer_key a) })) l
+for_after launches a h l = cond (eqb a.number 1) (Some (record { key = answer_key a; place = last_stored h (answer_key a) })) l
 for_after (delivers r x) a h l = l
 for_after (clears k) a h l = l
 for_after (resets z) a h l = l
@@ -132,16 +132,16 @@ for_after empties a h l = l
 
 -- what the last launch answered 1 was for; a delivery is for that
 unfoldable pub last_for : History → Option For
-last_for [] = none
+last_for [] = None
 last_for (e ∷ h) = for_after (asks e.call) e.answer h (last_for h)
 
 abbrev pub is_at : Option ℕ → ℕ → Bool
-is_at none s = false
-is_at (some n) s = eqb n s
+is_at None s = false
+is_at (Some n) s = eqb n s
 
 abbrev pub is_for : Option For → ℕ → Bool
-is_for none s = false
-is_for (some l) s = is_at l.place s
+is_for None s = false
+is_for (Some l) s = is_at l.place s
 
 -- ---- data deliveries
 
@@ -167,5 +167,5 @@ delivered_for (e ∷ h) s = cond (is_for (last_for h) s) (data_of (asks e.call) 
 
 -- the same for what may be no start-split
 abbrev pub delivered_to : History → Option ℕ → List Delivered
-delivered_to h none = []
-delivered_to h (some s) = delivered_for h s
+delivered_to h None = []
+delivered_to h (Some s) = delivered_for h s

@@ -1,6 +1,6 @@
 -- Rules with one mistake each, and that the claims over runs shut them out: so the claims are not empty.
 -- A reader must believe: each rule below is the translator's but for one call, and its comment says how.
-use Rattle.std.specs.Prelude.{ℕ, Bool, cond, ◌&&◌, List, eqb, ltb, take, set}
+use Rattle.std.specs.Prelude.{ℕ, Bool, cond, ◌&&◌, List, eqb, ltb, take, set, None, Ok, Option, Some}
 use Rattle.payload.specs.Payload.{payload_of}
 use Rattle.buffer.specs.declared.Key.{Key}
 use Rattle.buffer.specs.declared.StartSplit.{StartSplit}
@@ -10,13 +10,8 @@ use Rattle.buffer.specs.declared.BufferNumber.{BufferNumber}
 use Rattle.buffer.specs.Key as key
 use Rattle.buffer.specs.Buffer.{vacant, holds}
 use Rattle.translator.specs.declared.Translator.{Translator}
-use Rattle.translator.specs.declared.Found.{Found}
-use Rattle.translator.specs.declared.Found.TheVariants.{Nowhere, At}
 use Rattle.translator.specs.declared.Choice.{Choice}
 use Rattle.translator.specs.declared.Choice.TheVariants.{NoRoom, LimitReached, Held, Reused, Took}
-use Rattle.translator.specs.declared.Earliest.{Earliest}
-use Rattle.translator.specs.declared.Earliest.TheVariants.{NonePending, Stored}
-use Rattle.translator.specs.declared.StartAnswer.TheVariants.{Chosen}
 use Rattle.translator.specs.declared.Started.{Started}
 use Rattle.translator.specs.declared.Completed.{Completed}
 use Rattle.translator.specs.Order.{pass, waiting}
@@ -30,9 +25,9 @@ use Rattle.runs.specs.Order.{LaunchOrder}
 
 -- ---- a late result goes to a buffer that was refilled after a clear: the low side is not abandoned
 
-abbrev pub clear_late : Translator → Found → Translator
-clear_late t Nowhere = t
-clear_late t (At n) = record { buffers = set t.buffers n.0 vacant; count = t.count; low = t.low }
+abbrev pub clear_late : Translator → Option BufferNumber → Translator
+clear_late t None = t
+clear_late t (Some n) = record { buffers = set t.buffers n.0 vacant; count = t.count; low = t.low }
 
 abbrev pub late_result : TranslatorRules
 late_result = with_clear (λ t k. clear_late t (find (holds k) (take t.count t.buffers)))
@@ -60,26 +55,26 @@ stored_unranked t n s l =
     record { buffers = set t.buffers n.0 (record { slot = Pending s (waiting t.buffers); payload = payload_of l }); count = t.count; low = t.low }
 
 abbrev pub start_unranked : Translator → StartSplit → List ℕ → Choice → Started
-start_unranked t s l NoRoom = record { next = t; answer = Chosen NoRoom }
-start_unranked t s l LimitReached = record { next = t; answer = Chosen LimitReached }
-start_unranked t s l (Held n) = record { next = t; answer = Chosen (Held n) }
-start_unranked t s l (Reused n) = record { next = stored_unranked t n s l; answer = Chosen (Reused n) }
-start_unranked t s l (Took n) = record { next = stored_unranked t n s l; answer = Chosen (Took n) }
+start_unranked t s l NoRoom = record { next = t; answer = Ok NoRoom }
+start_unranked t s l LimitReached = record { next = t; answer = Ok LimitReached }
+start_unranked t s l (Held n) = record { next = t; answer = Ok (Held n) }
+start_unranked t s l (Reused n) = record { next = stored_unranked t n s l; answer = Ok (Reused n) }
+start_unranked t s l (Took n) = record { next = stored_unranked t n s l; answer = Ok (Took n) }
 
 abbrev pub places_twice : TranslatorRules
 places_twice = with_start (λ t s l. start_unranked t s l (permitted t.count (key.key_of s) (take t.count t.buffers)))
 
 -- ---- the latest is launched first
 
-abbrev pub latter : Earliest → Slot → BufferNumber → Earliest
+abbrev pub latter : Option (BufferNumber × ℕ) → Slot → BufferNumber → Option (BufferNumber × ℕ)
 latter e Empty n = e
-latter NonePending (Pending s p) n = Stored n p
-latter (Stored m q) (Pending s p) n = cond (ltb q p) (Stored n p) (Stored m q)
+latter None (Pending s p) n = Some (n, p)
+latter (Some (m, q)) (Pending s p) n = cond (ltb q p) (Some (n, p)) (Some (m, q))
 latter e (Ready s r) n = e
 latter e (Old s r) n = e
 
 abbrev pub latest_first : TranslatorRules
-latest_first = with_launch (λ t. launch_at t (pass latter 0 NonePending (take t.count t.buffers)))
+latest_first = with_launch (λ t. launch_at t (pass latter 0 None (take t.count t.buffers)))
 
 -- each mistake falsifies the claim that is to shut it out
 pub record MistakesShutOut : Type 0 where

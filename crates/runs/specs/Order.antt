@@ -1,8 +1,7 @@
 -- Which start-splits are pending, and which of them a launch must give, from a run's calls and answers alone.
 -- A reader must believe: a launch answered 1 gives the start-split stored earliest of those still pending; 3 only where none is; 8 exactly
 -- if the low side is occupied.
-use Rattle.std.specs.Prelude.{ℕ, ◌≤◌, ◌≡◌, List, [], ◌∷◌, Bool, true, false, cond, not, ◌&&◌, ◌||◌, ◌↔◌, length, eqb}
-use Rattle.std.proofs.Math.Option.{Option, none, some}
+use Rattle.std.specs.Prelude.{ℕ, ◌≤◌, ◌≡◌, List, [], ◌∷◌, Bool, true, false, cond, not, ◌&&◌, ◌||◌, ◌↔◌, length, eqb, Option, None, Some}
 use Rattle.buffer.specs.declared.Lane.{Lane}
 use Rattle.buffer.specs.declared.Pid.TheVariants as pid
 use Rattle.buffer.specs.declared.Direction.TheVariants as direction
@@ -16,21 +15,21 @@ use Rattle.runs.specs.Machine.{Machine, run}
 
 -- the call with s calls before it
 unfoldable pub call_at : History → ℕ → Option Call
-call_at [] s = none
-call_at (e ∷ h) s = cond (eqb s (length h)) (some e.call) (call_at h s)
+call_at [] s = None
+call_at (e ∷ h) s = cond (eqb s (length h)) (Some e.call) (call_at h s)
 
 -- it is a start-split of the lane
 abbrev pub is_from : Lane → Option Call → Bool
-is_from l none = false
-is_from l (some (Control z s room)) = false
-is_from l (some (Poll z room)) = false
-is_from l (some (Start z p t f g a e x)) = same_lane (lane_from z) l
-is_from l (some (Complete z a e d room)) = false
-is_from l (some (Launch room)) = false
-is_from l (some (Deliver r x)) = false
-is_from l (some (LineEvent e n)) = false
-is_from l (some Tick) = false
-is_from l (some BusReset) = false
+is_from l None = false
+is_from l (Some (Control z s room)) = false
+is_from l (Some (Poll z room)) = false
+is_from l (Some (Start z p t f g a e x)) = same_lane (lane_from z) l
+is_from l (Some (Complete z a e d room)) = false
+is_from l (Some (Launch room)) = false
+is_from l (Some (Deliver r x)) = false
+is_from l (Some (LineEvent e n)) = false
+is_from l (Some Tick) = false
+is_from l (Some BusReset) = false
 
 -- whether the start-split s is pending after a call, where w says whether it was before
 unfoldable pub pending_after : Asks → Answer → History → ℕ → Bool → Bool
@@ -78,7 +77,7 @@ pub record Earliest (a : Answer) (h : History) : Type 0 where
   pub place : ℕ
   pub pending : is_pending_at h place ≡ true
   pub earliest : (s : ℕ) → is_pending_at h s ≡ true → place ≤ s
-  pub gives : call_at h place ≡ some (Start a.lane a.pid a.transfer a.lowspeed a.toggle a.address a.endpoint a.bytes)
+  pub gives : call_at h place ≡ Some (Start a.lane a.pid a.transfer a.lowspeed a.toggle a.address a.endpoint a.bytes)
   pub directed : Directed a.pid a.direction
 
 abbrev pub NonePending : History → Type 0

@@ -1,17 +1,15 @@
 -- Rules with one mistake each in what a launch answers, and that the claim on the order of launches shuts each out.
 -- A reader must believe: each rule below is document 01's but for what its comment says.
-use Rattle.std.specs.Prelude.{ℕ, cond, not, eqb, take, set}
+use Rattle.std.specs.Prelude.{ℕ, cond, not, eqb, take, set, Err, None, Ok, Option, Result, Some}
 use Rattle.buffer.specs.declared.StartSplit.{StartSplit}
 use Rattle.buffer.specs.declared.Direction.TheVariants as direction
 use Rattle.buffer.specs.declared.BufferNumber.{BufferNumber}
 use Rattle.buffer.specs.Buffer.{vacant, is_pending, holds}
+use Rattle.translator.specs.declared.NotLaunched.{NotLaunched}
 use Rattle.translator.specs.declared.Translator.{Translator}
 use Rattle.translator.specs.declared.LowSide.{LowSide}
 use Rattle.translator.specs.declared.LowSide.TheVariants.{Idle, Running, Abandoned}
-use Rattle.translator.specs.declared.Found.{Found}
-use Rattle.translator.specs.declared.Found.TheVariants.{Nowhere, At}
-use Rattle.translator.specs.declared.LaunchAnswer.{LaunchAnswer}
-use Rattle.translator.specs.declared.LaunchAnswer.TheVariants.{NothingPending, Occupied, Launches}
+use Rattle.translator.specs.declared.NotLaunched.TheVariants.{NothingPending, Occupied}
 use Rattle.translator.specs.Translator.{at}
 use Rattle.translator.specs.Search.{find}
 use Rattle.translator.specs.Launch.{unlaunched, launch}
@@ -30,7 +28,7 @@ first_alone = with_launch (λ t. cond (is_pending (at t.buffers 0).slot) (launch
 
 -- ---- the rules' launch, answered as f says
 
-abbrev pub answered_as : (LaunchAnswer → LaunchAnswer) → TranslatorRules
+abbrev pub answered_as : (Result StartSplit NotLaunched → Result StartSplit NotLaunched) → TranslatorRules
 answered_as f = with_launch (λ t. record { next = (launch t).next; answer = f (launch t).answer; payload = (launch t).payload })
 
 -- the toggle is inverted
@@ -46,16 +44,16 @@ inverted s =
       endpoint = s.endpoint;
     }
 
-abbrev pub inverted_toggle : LaunchAnswer → LaunchAnswer
-inverted_toggle NothingPending = NothingPending
-inverted_toggle Occupied = Occupied
-inverted_toggle (Launches s) = Launches (inverted s)
+abbrev pub inverted_toggle : Result StartSplit NotLaunched → Result StartSplit NotLaunched
+inverted_toggle (Err NothingPending) = Err NothingPending
+inverted_toggle (Err Occupied) = Err Occupied
+inverted_toggle (Ok s) = Ok (inverted s)
 
 -- 8 in place of 3
-abbrev pub occupied_if_none : LaunchAnswer → LaunchAnswer
-occupied_if_none NothingPending = Occupied
-occupied_if_none Occupied = Occupied
-occupied_if_none (Launches s) = Launches s
+abbrev pub occupied_if_none : Result StartSplit NotLaunched → Result StartSplit NotLaunched
+occupied_if_none (Err NothingPending) = Err Occupied
+occupied_if_none (Err Occupied) = Err Occupied
+occupied_if_none (Ok s) = Ok s
 
 -- ---- a launch answered 1 gives another direction
 
@@ -103,9 +101,9 @@ low_freed n Idle = Idle
 low_freed n (Running m) = cond (eqb m.0 n.0) Idle (Running m)
 low_freed n Abandoned = Abandoned
 
-abbrev pub clear_freeing : Translator → Found → Translator
-clear_freeing t Nowhere = t
-clear_freeing t (At n) = record { buffers = set t.buffers n.0 vacant; count = t.count; low = low_freed n t.low }
+abbrev pub clear_freeing : Translator → Option BufferNumber → Translator
+clear_freeing t None = t
+clear_freeing t (Some n) = record { buffers = set t.buffers n.0 vacant; count = t.count; low = low_freed n t.low }
 
 abbrev pub clear_frees : TranslatorRules
 clear_frees = with_clear (λ t k. clear_freeing t (find (holds k) (take t.count t.buffers)))

@@ -28,8 +28,8 @@ use Rattle.numbers.specs.Written.{type_number, direction_number, result_written,
 use Rattle.numbers.specs.Named.{result_from, event_from, lane_from}
 use Rattle.numbers.specs.Split.{split_from, key_from}
 use Rattle.request.specs.declared.Fault.{Fault}
+use Rattle.std.specs.Prelude.{Result, Err}
 use Rattle.request.specs.declared.Request.{Request}
-use Rattle.request.specs.declared.Request.TheVariants.{Wrong}
 use Rattle.request.specs.Request.{request_of}
 use Rattle.hub.specs.declared.Hub.{Hub}
 use Rattle.hub.specs.Call.{Call, Control, Poll, Start, Complete, Launch, Deliver, Event, Tick, BusReset, Outcome}
@@ -200,11 +200,11 @@ Misplaced h Tick = ⊥
 Misplaced h BusReset = ⊥
 
 -- setup bytes that are none of the table's requests read as this
-abbrev pub IsWrong : Request → Type 0
-IsWrong r = (f : Fault) × (r ≡ Wrong f)
+abbrev pub IsWrong : Result Request Fault → Type 0
+IsWrong r = (f : Fault) × (r ≡ Err f)
 
 -- Anything else is 2. Unconfigured, only the first three are served; others are 2.
-abbrev pub Unserved : Bool → Request → Type 0
+abbrev pub Unserved : Bool → Result Request Fault → Type 0
 Unserved on r = IsWrong r ⊎ ((on ≡ false) × (served_always r ≡ false))
 
 -- 2 STALL

@@ -1,15 +1,14 @@
 -- Rules with one mistake each that break the tally: so it is not empty, and its "answered" is not bent to fit.
 -- A reader must believe: each rule below is the translator's but for one call, and its comment says how.
-use Rattle.std.specs.Prelude.{take, set}
+use Rattle.std.specs.Prelude.{take, set, None, Option, Some}
 use Rattle.payload.specs.Payload.{no_payload}
 use Rattle.buffer.specs.declared.DeviceResult.TheVariants.{Stall}
 use Rattle.buffer.specs.declared.Slot.{Slot}
 use Rattle.buffer.specs.declared.Slot.TheVariants.{Empty, Pending, Ready, Old}
 use Rattle.buffer.specs.Buffer.{holds}
+use Rattle.buffer.specs.declared.BufferNumber.{BufferNumber}
 use Rattle.translator.specs.declared.Translator.{Translator}
 use Rattle.translator.specs.declared.LowSide.TheVariants.{Idle}
-use Rattle.translator.specs.declared.Found.{Found}
-use Rattle.translator.specs.declared.Found.TheVariants.{Nowhere, At}
 use Rattle.translator.specs.Translator.{at}
 use Rattle.translator.specs.Search.{find}
 use Rattle.translator.specs.CompleteSplit.{complete_split}
@@ -27,9 +26,9 @@ shut (Pending s p) = Old s Stall
 shut (Ready s r) = Old s Stall
 shut (Old s r) = Old s Stall
 
-abbrev pub clear_shut : Translator → Found → Translator
-clear_shut t Nowhere = t
-clear_shut t (At n) =
+abbrev pub clear_shut : Translator → Option BufferNumber → Translator
+clear_shut t None = t
+clear_shut t (Some n) =
     record { buffers = set t.buffers n.0 (record { slot = shut (at t.buffers n.0).slot; payload = no_payload }); count = t.count; low = Idle }
 
 abbrev pub emptied_answers : TranslatorRules

@@ -1,9 +1,11 @@
 -- What looks at slots alone comes out the same of buffers without their payloads. Assumes nothing.
-use Prim.Native.Nat.{ℕ, zero, suc, ◌+◌}
+use Prim.Native.Nat.{ℕ, suc, ◌+◌}
 use mathlib.Core.Path.{◌≡◌, refl, sym, ap, ◌∙◌}
 use mathlib.Core.Bool.{Bool, cond}
 use mathlib.Core.List.{List, [], ◌∷◌}
 use lib.ListN.{take}
+use Rattle.std.specs.List.{take-map}
+use Rattle.std.specs.Prelude.{Option, Some, None}
 use Rattle.buffer.specs.declared.Key.{Key}
 use Rattle.buffer.specs.declared.Slot.{Slot}
 use Rattle.buffer.specs.declared.Slot.TheVariants.{Empty, Pending, Ready, Old}
@@ -11,10 +13,7 @@ use Rattle.buffer.specs.declared.Buffer.{Buffer}
 use Rattle.buffer.specs.declared.BufferNumber.{BufferNumber}
 use Rattle.payload.specs.Payload.{no_payload}
 use Rattle.buffer.specs.Buffer.{is_pending}
-use Rattle.translator.specs.declared.Found.{Found}
-use Rattle.translator.specs.declared.Found.TheVariants.{At}
 use Rattle.translator.specs.declared.Carried.TheVariants.{NoneYet}
-use Rattle.translator.specs.declared.Earliest.TheVariants.{NonePending}
 use Rattle.translator.specs.Slots.{slots_in, bare}
 use Rattle.translator.specs.Order.{pass, is_before, waiting, before, reranked, ranked_in, sooner, earliest}
 use Rattle.translator.specs.Search.{later, find}
@@ -22,14 +21,8 @@ use Rattle.translator.specs.Limit.{permitted}
 use Rattle.bools.specs.Bit.{bit}
 use Rattle.translator.specs.Translator.{tally}
 use Rattle.translator.specs.OnePass.{choice_of}
+use Rattle.translator.proofs.Passes.{take_bare}
 use Rattle.translator.proofs.Search.{looking, pass-permitted}
-
--- the first n of the buffers without payloads
-cut_bare : (n : ℕ) (bs : List Buffer) → take n (bare (slots_in bs)) ≡ bare (slots_in (take n bs))
-unfolding bare
-cut_bare zero bs = refl
-cut_bare (suc n) [] = refl
-cut_bare (suc n) (b ∷ bs) = ap (λ (l : List Buffer). record { slot = b.slot; payload = no_payload } ∷ l) (cut_bare n bs)
 
 -- one fact for all: what is made slot by slot is the same without payloads
 module _ {C : Type 0} (g : List Buffer → C) (step : Slot → C → C) (steps : (b : Buffer) (bs : List Buffer) → g (b ∷ bs) ≡ step b.slot (g bs)) where
@@ -39,11 +32,11 @@ module _ {C : Type 0} (g : List Buffer → C) (step : Slot → C → C) (steps :
   by_slots (b ∷ bs) = steps (record { slot = b.slot; payload = no_payload }) (bare (slots_in bs)) ∙ ap (step b.slot) (by_slots bs) ∙ sym (steps b bs)
 
   by_first_slots : (n : ℕ) (bs : List Buffer) → g (take n (bare (slots_in bs))) ≡ g (take n bs)
-  by_first_slots n bs = ap g (cut_bare n bs) ∙ by_slots (take n bs)
+  by_first_slots n bs = ap g (take_bare n (slots_in bs) ∙ ap bare (take-map (λ (b : Buffer). b.slot) n bs)) ∙ by_slots (take n bs)
 
 pub find-bare : (p : Slot → Bool) (n : ℕ) (bs : List Buffer) → find p (take n (bare (slots_in bs))) ≡ find p (take n bs)
 unfolding find
-find-bare p = by_first_slots (find p) (λ (s : Slot) (f : Found). cond (p s) (At (record { 0 = 0 })) (later f)) (λ b bs. refl)
+find-bare p = by_first_slots (find p) (λ (s : Slot) (f : Option BufferNumber). cond (p s) (Some (record { 0 = 0 })) (later f)) (λ b bs. refl)
 
 -- the order of acceptance
 tally-bare : (f : Slot → Bool) (bs : List Buffer) → tally f (bare (slots_in bs)) ≡ tally f bs
@@ -72,7 +65,7 @@ permitted-bare b k n bs =
 
 pub earliest-bare : (n : ℕ) (bs : List Buffer) → earliest (take n (bare (slots_in bs))) ≡ earliest (take n bs)
 unfolding earliest
-earliest-bare = pass-bare sooner NonePending
+earliest-bare = pass-bare sooner None
 
 -- a rank among the slots is the rank among the buffers
 pub ranked_in-bare : (bs : List Buffer) (b : Buffer) → ranked_in (bare (slots_in bs)) b ≡ ranked_in bs b

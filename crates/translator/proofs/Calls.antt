@@ -7,6 +7,7 @@ use mathlib.Core.Bool.{Bool, true, false, cond, true≢false, false≢true}
 use borrow.Author.Tests.{eqb-true}
 use lib.ListN.{length, set, take, length-take}
 use lib.Seq.{get_or-take}
+use Rattle.std.specs.Prelude.{Option, Some, None, Result, Ok, Err}
 use Rattle.payload.specs.Payload.{payload_of}
 use Rattle.buffer.specs.declared.Key.{Key}
 use Rattle.buffer.specs.declared.StartSplit.{StartSplit}
@@ -22,17 +23,12 @@ use Rattle.buffer.specs.Buffer.{vacant, is_pending, is_active, holds}
 use Rattle.translator.specs.declared.LowSide.{LowSide}
 use Rattle.translator.specs.declared.LowSide.TheVariants.{Idle, Running, Abandoned}
 use Rattle.translator.specs.declared.Translator.{Translator}
-use Rattle.translator.specs.declared.Found.{Found}
-use Rattle.translator.specs.declared.Found.TheVariants.{Nowhere, At}
 use Rattle.translator.specs.declared.Choice.{Choice}
 use Rattle.translator.specs.declared.Choice.TheVariants.{NoRoom, LimitReached, Held, Reused, Took}
-use Rattle.translator.specs.declared.Earliest.{Earliest}
-use Rattle.translator.specs.declared.Earliest.TheVariants.{NonePending, Stored}
-use Rattle.translator.specs.declared.StartAnswer.{StartAnswer}
-use Rattle.translator.specs.declared.StartAnswer.TheVariants as start
-use Rattle.translator.specs.declared.LaunchAnswer.{LaunchAnswer}
-use Rattle.translator.specs.declared.LaunchAnswer.TheVariants.{NothingPending, Occupied, Launches}
-use Rattle.translator.specs.declared.DeliverAnswer.TheVariants as answer
+use Rattle.translator.specs.declared.Outside.{Outside}
+use Rattle.translator.specs.declared.NotLaunched.{NotLaunched}
+use Rattle.translator.specs.declared.NotLaunched.TheVariants.{NothingPending, Occupied}
+use Rattle.translator.specs.declared.NotDelivered.TheVariants as answer
 use Rattle.translator.specs.declared.Started.{Started}
 use Rattle.translator.specs.declared.Completed.{Completed}
 use Rattle.translator.specs.declared.Launched.{Launched}
@@ -43,7 +39,7 @@ use Rattle.translator.specs.Limit.{held_by, may_store, limited, permitted, AtLim
 use Rattle.translator.specs.ResetLane.{reset_lane}
 use Rattle.translator.specs.Valid.{at_place, ValidTranslator}
 use Rattle.translator.specs.Order.{waiting, before, ranked, earliest}
-use Rattle.translator.specs.StartSplit.{stored, start_by, start_split}
+use Rattle.translator.specs.StartSplit.{outside, stored, start_by, start_split}
 use Rattle.translator.specs.CompleteSplit.{completed, complete_at, complete_split}
 use Rattle.translator.specs.Launch.{launched, launch_at, launch_by, launch}
 use Rattle.translator.specs.Deliver.{undelivered, delivered, deliver_by, deliver}
@@ -63,7 +59,7 @@ start_same t s l = go (start_fits s (length l)) (permitted t.count (key_of s) (t
     Same : Started → Type 0
     Same o = is_refusal (start_number o.answer) ≡ true → o.next ≡ t
 
-    go : (x : Bool) (c : Choice) → Same (cond x (start_by t s l c) (record { next = t; answer = start.Outside }))
+    go : (x : Bool) (c : Choice) → Same (cond x (start_by t s l c) (record { next = t; answer = Err outside }))
     go true NoRoom e = refl
     go true LimitReached e = refl
     go true (Held n) e = refl
@@ -92,9 +88,9 @@ complete_same t k = go (find (holds k) (take t.count t.buffers))
     slot n (Ready s r) e = absurd (true≢false (sym e ∙ result_served r))
     slot n (Old s r) e = refl
 
-    go : (f : Found) → Same (complete_at t f)
-    go Nowhere e = refl
-    go (At n) e = slot n (at t.buffers n.0).slot e
+    go : (f : Option BufferNumber) → Same (complete_at t f)
+    go None e = refl
+    go (Some n) e = slot n (at t.buffers n.0).slot e
 
 launch_same : (t : Translator) → is_refusal (launch_number (launch t).answer) ≡ true → (launch t).next ≡ t
 unfolding launch
@@ -109,9 +105,9 @@ launch_same t = go t.low
     slot n (Ready s r) e = refl
     slot n (Old s r) e = refl
 
-    found : (x : Earliest) → Same (launch_at t x)
-    found NonePending e = refl
-    found (Stored n p) e = slot n (at t.buffers n.0).slot e
+    found : (x : Option (BufferNumber × ℕ)) → Same (launch_at t x)
+    found None e = refl
+    found (Some (n, p)) e = slot n (at t.buffers n.0).slot e
 
     go : (l : LowSide) → Same (launch_by t l)
     go Idle e = found (earliest (take t.count t.buffers)) e
@@ -125,7 +121,7 @@ deliver_same t r l = go (result_length r (length l)) t.low
     Same : Delivered → Type 0
     Same o = is_refusal (deliver_number o.answer) ≡ true → o.next ≡ t
 
-    suited : (o : Delivered) → o.answer ≡ answer.Done → (x : Bool) → Same (cond x o (undelivered t answer.NotInThisState))
+    suited : (o : Delivered) → o.answer ≡ Ok tt → (x : Bool) → Same (cond x o (undelivered t answer.NotInThisState))
     suited o d true e = absurd (false≢true (ap (λ a. is_refusal (deliver_number a)) (sym d) ∙ e))
     suited o d false e = refl
 
@@ -177,13 +173,13 @@ last_stored t s l n here e =
     there = subst (λ (m : ℕ). n.0 < m) (sym (length-ranked t.buffers)) here
 
 -- what a start-split that was answered so did
-abbrev pub StartedAs : Translator → StartSplit → List ℕ → StartAnswer → Translator → Type 0
-StartedAs t s l start.Outside u = u ≡ t
-StartedAs t s l (start.Chosen NoRoom) u = u ≡ t
-StartedAs t s l (start.Chosen LimitReached) u = u ≡ t
-StartedAs t s l (start.Chosen (Held n)) u = u ≡ t
-StartedAs t s l (start.Chosen (Reused n)) u = (n.0 < length t.buffers) × (u ≡ stored t n s l)
-StartedAs t s l (start.Chosen (Took n)) u = (n.0 < length t.buffers) × (u ≡ stored t n s l)
+abbrev pub StartedAs : Translator → StartSplit → List ℕ → Result Choice Outside → Translator → Type 0
+StartedAs t s l (Err o) u = u ≡ t
+StartedAs t s l (Ok NoRoom) u = u ≡ t
+StartedAs t s l (Ok LimitReached) u = u ≡ t
+StartedAs t s l (Ok (Held n)) u = u ≡ t
+StartedAs t s l (Ok (Reused n)) u = (n.0 < length t.buffers) × (u ≡ stored t n s l)
+StartedAs t s l (Ok (Took n)) u = (n.0 < length t.buffers) × (u ≡ stored t n s l)
 
 pub started_as_lem : (t : Translator) (s : StartSplit) (l : List ℕ) → StartedAs t s l (start_split t s l).answer (start_split t s l).next
 unfolding start_split
@@ -192,7 +188,7 @@ started_as_lem t s l = go (start_fits s (length l)) (permitted t.count (key_of s
     As : Started → Type 0
     As o = StartedAs t s l o.answer o.next
 
-    go : (x : Bool) (c : Choice) → PermittedSays t.count (key_of s) t.count t.buffers c → As (cond x (start_by t s l c) (record { next = t; answer = start.Outside }))
+    go : (x : Bool) (c : Choice) → PermittedSays t.count (key_of s) t.count t.buffers c → As (cond x (start_by t s l c) (record { next = t; answer = Err outside }))
     go true NoRoom r = refl
     go true LimitReached r = refl
     go true (Held n) r = refl
@@ -218,10 +214,10 @@ pub record EarliestLaunched (t : Translator) (s : StartSplit) (o : Launched) : T
   pub next : o.next ≡ record { buffers = t.buffers; count = t.count; low = Running number }
   pub payload : o.payload ≡ (at t.buffers number.0).payload
 
-abbrev pub LaunchedAs : Translator → LaunchAnswer → Launched → Type 0
-LaunchedAs t NothingPending o = (j : ℕ) → is_pending (at t.buffers j).slot ≡ false
-LaunchedAs t Occupied o = Unit {0}
-LaunchedAs t (Launches s) o = EarliestLaunched t s o
+abbrev pub LaunchedAs : Translator → Result StartSplit NotLaunched → Launched → Type 0
+LaunchedAs t (Err NothingPending) o = (j : ℕ) → is_pending (at t.buffers j).slot ≡ false
+LaunchedAs t (Err Occupied) o = Unit {0}
+LaunchedAs t (Ok s) o = EarliestLaunched t s o
 
 module _ (t : Translator) (v : ValidTranslator t) where
   long : length (take t.count t.buffers) ≡ t.count
@@ -234,7 +230,7 @@ module _ (t : Translator) (v : ValidTranslator t) where
   same_at : (j : ℕ) → j < t.count → at (take t.count t.buffers) j ≡ at t.buffers j
   same_at j h = get_or-take t.count t.buffers j vacant h
 
-  nothing : EarliestSays (take t.count t.buffers) (length (take t.count t.buffers)) NonePending → (j : ℕ) → is_pending (at t.buffers j).slot ≡ false
+  nothing : EarliestSays (take t.count t.buffers) (length (take t.count t.buffers)) None → (j : ℕ) → is_pending (at t.buffers j).slot ≡ false
   nothing says j = go (is_pending (at t.buffers j).slot) refl
     where
       go : (x : Bool) → is_pending (at t.buffers j).slot ≡ x → x ≡ false
@@ -271,9 +267,9 @@ module _ (t : Translator) (v : ValidTranslator t) where
   unfolding launch
   launched_as_lem = go t.low
     where
-      found : (e : Earliest) → EarliestSays (take t.count t.buffers) (length (take t.count t.buffers)) e → LaunchedAs t (launch_at t e).answer (launch_at t e)
-      found NonePending says = nothing says
-      found (Stored n p) says = slot n p says (at t.buffers n.0).slot refl
+      found : (e : Option (BufferNumber × ℕ)) → EarliestSays (take t.count t.buffers) (length (take t.count t.buffers)) e → LaunchedAs t (launch_at t e).answer (launch_at t e)
+      found None says = nothing says
+      found (Some (n, p)) says = slot n p says (at t.buffers n.0).slot refl
 
       go : (l : LowSide) → LaunchedAs t (launch_by t l).answer (launch_by t l)
       go Idle = found (earliest (take t.count t.buffers)) (earliest_says (take t.count t.buffers))
@@ -296,7 +292,7 @@ unfolding find
 find-set f zero bs i b h e = refl
 find-set f (suc m) [] i b h e = refl
 find-set f (suc m) (c ∷ bs) zero b h e = rw e
-find-set f (suc m) (c ∷ bs) (suc i) b h e = ap (λ (x : Found). cond (f c.slot) (At (record { 0 = 0 })) (later x)) (find-set f m bs i b (omega (arith, h)) e)
+find-set f (suc m) (c ∷ bs) (suc i) b h e = ap (λ (x : Option BufferNumber). cond (f c.slot) (Some (record { 0 = 0 })) (later x)) (find-set f m bs i b (omega (arith, h)) e)
 
 pub same_again : SameAgain
 unfolding complete_split
@@ -305,9 +301,9 @@ same_again t k = go (find (holds k) (take t.count t.buffers)) refl (find_says (h
     Again : Completed → Type 0
     Again o = complete_at o.next (find (holds k) (take o.next.count o.next.buffers)) ≡ o
 
-    go : (f : Found) → find (holds k) (take t.count t.buffers) ≡ f → FindSays (holds k) t.count t.buffers f → Again (complete_at t f)
-    go Nowhere e r = rw e
-    go (At n) e r = slot (at t.buffers n.0).slot refl
+    go : (f : Option BufferNumber) → find (holds k) (take t.count t.buffers) ≡ f → FindSays (holds k) t.count t.buffers f → Again (complete_at t f)
+    go None e r = rw e
+    go (Some n) e r = slot (at t.buffers n.0).slot refl
       where
         slot : (s : Slot) → (at t.buffers n.0).slot ≡ s → Again (completed t n (at t.buffers n.0).payload s)
         slot Empty g = rw (e, g)
@@ -321,7 +317,7 @@ same_again t k = go (find (holds k) (take t.count t.buffers)) refl (find_says (h
 -- ---- old buffers
 
 old_start : (t : Translator) (s o : StartSplit) (r : DeviceResult) (l : List ℕ) (i : ℕ) → (at t.buffers i).slot ≡ Old o r
-    → ¬ ((start_split t s l).answer ≡ start.Chosen (Reused (record { 0 = i }))) → ¬ ((start_split t s l).answer ≡ start.Chosen (Took (record { 0 = i })))
+    → ¬ ((start_split t s l).answer ≡ Ok (Reused (record { 0 = i }))) → ¬ ((start_split t s l).answer ≡ Ok (Took (record { 0 = i })))
     → at (start_split t s l).next.buffers i ≡ at t.buffers i
 unfolding stored
 old_start t s o r l i e nr nt = go (start_split t s l).answer refl (started_as_lem t s l)
@@ -331,13 +327,13 @@ old_start t s o r l i e nr nt = go (start_split t s l).answer refl (started_as_l
         at_other (ranked t.buffers) n.0 (record { slot = Pending s (waiting t.buffers); payload = payload_of l }) (subst (λ (m : ℕ). n.0 < m) (sym (length-ranked t.buffers)) h) i ne
         ∙ (at-ranked t.buffers i ∙ ap (λ (x : Slot). record { slot = x; payload = (at t.buffers i).payload }) (reranked_idle t.buffers (at t.buffers i).slot (ap is_pending e)))
 
-    go : (a : StartAnswer) → (start_split t s l).answer ≡ a → StartedAs t s l a (start_split t s l).next → at (start_split t s l).next.buffers i ≡ at t.buffers i
-    go start.Outside f x = ap (λ (u : Translator). at u.buffers i) x
-    go (start.Chosen NoRoom) f x = ap (λ (u : Translator). at u.buffers i) x
-    go (start.Chosen LimitReached) f x = ap (λ (u : Translator). at u.buffers i) x
-    go (start.Chosen (Held n)) f x = ap (λ (u : Translator). at u.buffers i) x
-    go (start.Chosen (Reused n)) f x = ap (λ (u : Translator). at u.buffers i) x.1 ∙ other n x.0 (λ q. nr (rw q f))
-    go (start.Chosen (Took n)) f x = ap (λ (u : Translator). at u.buffers i) x.1 ∙ other n x.0 (λ q. nt (rw q f))
+    go : (a : Result Choice Outside) → (start_split t s l).answer ≡ a → StartedAs t s l a (start_split t s l).next → at (start_split t s l).next.buffers i ≡ at t.buffers i
+    go (Err o) f x = ap (λ (u : Translator). at u.buffers i) x
+    go (Ok NoRoom) f x = ap (λ (u : Translator). at u.buffers i) x
+    go (Ok LimitReached) f x = ap (λ (u : Translator). at u.buffers i) x
+    go (Ok (Held n)) f x = ap (λ (u : Translator). at u.buffers i) x
+    go (Ok (Reused n)) f x = ap (λ (u : Translator). at u.buffers i) x.1 ∙ other n x.0 (λ q. nr (rw q f))
+    go (Ok (Took n)) f x = ap (λ (u : Translator). at u.buffers i) x.1 ∙ other n x.0 (λ q. nt (rw q f))
 
 -- a call that leaves buffer n or changes it where it was not old
 old_else : (t : Translator) (o : StartSplit) (r : DeviceResult) (i : ℕ) → (at t.buffers i).slot ≡ Old o r → (n : BufferNumber) (b : Buffer) (f : Slot → Bool)
@@ -356,9 +352,9 @@ old-complete : (t : Translator) (k : Key) (o : StartSplit) (r : DeviceResult) (i
 unfolding complete_split is_ready
 old-complete t k o r i e = go (find (holds k) (take t.count t.buffers)) (find_says (holds k) t.count t.buffers)
   where
-    go : (f : Found) → FindSays (holds k) t.count t.buffers f → at (complete_at t f).next.buffers i ≡ at t.buffers i
-    go Nowhere x = refl
-    go (At n) x = slot (at t.buffers n.0).slot refl
+    go : (f : Option BufferNumber) → FindSays (holds k) t.count t.buffers f → at (complete_at t f).next.buffers i ≡ at t.buffers i
+    go None x = refl
+    go (Some n) x = slot (at t.buffers n.0).slot refl
       where
         slot : (s : Slot) → (at t.buffers n.0).slot ≡ s → at (completed t n (at t.buffers n.0).payload s).next.buffers i ≡ at t.buffers i
         slot Empty g = refl
@@ -376,9 +372,9 @@ old-launch t i = ap (λ (bs : List Buffer). at bs i) (go t.low)
     slot n (Ready s r) = refl
     slot n (Old s r) = refl
 
-    found : (e : Earliest) → (launch_at t e).next.buffers ≡ t.buffers
-    found NonePending = refl
-    found (Stored n p) = slot n (at t.buffers n.0).slot
+    found : (e : Option (BufferNumber × ℕ)) → (launch_at t e).next.buffers ≡ t.buffers
+    found None = refl
+    found (Some (n, p)) = slot n (at t.buffers n.0).slot
 
     go : (l : LowSide) → (launch_by t l).next.buffers ≡ t.buffers
     go Idle = found (earliest (take t.count t.buffers))
@@ -399,7 +395,7 @@ old-deliver t x l o r i e = go (result_length x (length l)) t.low
         b : Buffer
         b = record { slot = Ready s x; payload = payload_of l }
 
-        by : (y : Bool) → at (cond y (record { next = record { buffers = set t.buffers n.0 b; count = t.count; low = Idle }; answer = answer.Done }) (undelivered t answer.NotInThisState)).next.buffers i ≡ at t.buffers i
+        by : (y : Bool) → at (cond y (record { next = record { buffers = set t.buffers n.0 b; count = t.count; low = Idle }; answer = Ok tt }) (undelivered t answer.NotInThisState)).next.buffers i ≡ at t.buffers i
         by true = old_else t o r i e n b is_pending (ap is_pending g) refl (inside is_pending refl t.buffers n.0 (ap is_pending g))
         by false = refl
 
@@ -415,20 +411,20 @@ old_kept = record { start = old_start; complete = old-complete; launched = old-l
 -- ---- the limit of a lane
 
 -- what a start-split that was answered so says of its lane
-abbrev LimitAs : Translator → StartSplit → StartAnswer → Type 0
-LimitAs t s start.Outside = Unit {0}
-LimitAs t s (start.Chosen NoRoom) = Unit {0}
-LimitAs t s (start.Chosen LimitReached) = AtLimit s.lane t × NoRepeat (key_of s) t
-LimitAs t s (start.Chosen (Held n)) = Unit {0}
-LimitAs t s (start.Chosen (Reused n)) = Unit {0}
-LimitAs t s (start.Chosen (Took n)) = Unit {0}
+abbrev LimitAs : Translator → StartSplit → Result Choice Outside → Type 0
+LimitAs t s (Err o) = Unit {0}
+LimitAs t s (Ok NoRoom) = Unit {0}
+LimitAs t s (Ok LimitReached) = AtLimit s.lane t × NoRepeat (key_of s) t
+LimitAs t s (Ok (Held n)) = Unit {0}
+LimitAs t s (Ok (Reused n)) = Unit {0}
+LimitAs t s (Ok (Took n)) = Unit {0}
 
 limit_as : (t : Translator) (s : StartSplit) (l : List ℕ) → ValidTranslator t → LimitAs t s (start_split t s l).answer
 unfolding start_split
 limit_as t s l v = go (start_fits s (length l)) (permitted t.count (key_of s) (take t.count t.buffers)) (permitted_says t.count (key_of s) t.count t.buffers)
   where
     go : (x : Bool) (c : Choice) → PermittedSays t.count (key_of s) t.count t.buffers c
-        → LimitAs t s (cond x (start_by t s l c) (record { next = t; answer = start.Outside })).answer
+        → LimitAs t s (cond x (start_by t s l c) (record { next = t; answer = Err outside })).answer
     go true NoRoom r = tt
     go true LimitReached r = (may_not_store t s.lane r.full, no_repeat t v (key_of s) r.wanted r.says r.unheld)
     go true (Held n) r = tt
@@ -437,11 +433,11 @@ limit_as t s l v = go (start_fits s (length l)) (permitted t.count (key_of s) (t
     go false c r = tt
 
 at_limit : (t : Translator) (s : StartSplit) (l : List ℕ) → ValidTranslator t → start_fits s (length l) ≡ true → AtLimit s.lane t → NoRepeat (key_of s) t
-    → (start_split t s l).answer ≡ start.Chosen LimitReached
+    → (start_split t s l).answer ≡ Ok LimitReached
 unfolding start_split
 at_limit t s l v fits full none = rw fits (go (permitted t.count (key_of s) (take t.count t.buffers)) (permitted_says t.count (key_of s) t.count t.buffers))
   where
-    go : (c : Choice) → PermittedSays t.count (key_of s) t.count t.buffers c → (start_by t s l c).answer ≡ start.Chosen LimitReached
+    go : (c : Choice) → PermittedSays t.count (key_of s) t.count t.buffers c → (start_by t s l c).answer ≡ Ok LimitReached
     go NoRoom r = absurd (may_store_lem t s.lane r.may full)
     go LimitReached r = refl
     go (Held n) r = absurd (true≢false (sym r.active ∙ none n.0 r.found.passes))
@@ -449,7 +445,7 @@ at_limit t s l v fits full none = rw fits (go (permitted t.count (key_of s) (tak
     go (Took n) r = absurd (may_store_lem t s.lane r.may full)
 
 repeated : (t : Translator) (s : StartSplit) (l : List ℕ) (n : BufferNumber) → ValidTranslator t → start_fits s (length l) ≡ true
-    → holds (key_of s) (at t.buffers n.0).slot ≡ true → is_active (at t.buffers n.0).slot ≡ true → (start_split t s l).answer ≡ start.Chosen (Held n)
+    → holds (key_of s) (at t.buffers n.0).slot ≡ true → is_active (at t.buffers n.0).slot ≡ true → (start_split t s l).answer ≡ Ok (Held n)
 unfolding start_split permitted
 repeated t s l n v fits has active = rw fits (go (may_store t.count (held_by s.lane (take t.count t.buffers))) (chosen (key_of s) (take t.count t.buffers)) (chosen_says (key_of s) t.count t.buffers))
   where
@@ -465,11 +461,11 @@ repeated t s l n v fits has active = rw fits (go (may_store t.count (held_by s.l
     listed : n.0 < length t.buffers
     listed = inside (holds (key_of s)) refl t.buffers n.0 has
 
-    held : (m : BufferNumber) (x : Bool) → m.0 ≡ n.0 → (start_by t s l (limited x (Held m))).answer ≡ start.Chosen (Held n)
-    held m true e = ap (λ (i : ℕ). start.Chosen (Held (record { 0 = i }))) e
-    held m false e = ap (λ (i : ℕ). start.Chosen (Held (record { 0 = i }))) e
+    held : (m : BufferNumber) (x : Bool) → m.0 ≡ n.0 → (start_by t s l (limited x (Held m))).answer ≡ Ok (Held n)
+    held m true e = ap (λ (i : ℕ). Ok (Held (record { 0 = i }))) e
+    held m false e = ap (λ (i : ℕ). Ok (Held (record { 0 = i }))) e
 
-    go : (x : Bool) (c : Choice) → ChosenSays (key_of s) t.count t.buffers c → (start_by t s l (limited x c)).answer ≡ start.Chosen (Held n)
+    go : (x : Bool) (c : Choice) → ChosenSays (key_of s) t.count t.buffers c → (start_by t s l (limited x c)).answer ≡ Ok (Held n)
     go x NoRoom r = absurd (missed (r.none n.0 used listed))
     go x LimitReached r = absurd r
     go x (Held m) r = held m x (there m.0 r.found.passes)

@@ -10,6 +10,7 @@ use native.Mathlib.Omega.{arith}
 use native.Mathlib.Nat.{not-suc-le-zero, le_of_suc-le-suc}
 use native.Mathlib.Decide.{ℕ_discrete}
 use borrow.Author.Tests.{eq-eqb, ltb-true, ltb-false}
+use Rattle.std.specs.Prelude.{Option, Some, None}
 use Rattle.buffer.specs.declared.Lane.{Lane}
 use Rattle.buffer.specs.declared.Key.{Key}
 use Rattle.buffer.specs.declared.Slot.{Slot}
@@ -18,12 +19,8 @@ use Rattle.buffer.specs.declared.Buffer.{Buffer}
 use Rattle.buffer.specs.declared.BufferNumber.{BufferNumber}
 use Rattle.buffer.specs.Buffer.{vacant, is_pending, is_active, is_free, holds}
 use Rattle.translator.specs.declared.Translator.{Translator}
-use Rattle.translator.specs.declared.Found.{Found}
-use Rattle.translator.specs.declared.Found.TheVariants.{Nowhere, At}
 use Rattle.translator.specs.declared.Choice.{Choice}
 use Rattle.translator.specs.declared.Choice.TheVariants.{NoRoom, LimitReached, Held, Reused, Took}
-use Rattle.translator.specs.declared.Earliest.{Earliest}
-use Rattle.translator.specs.declared.Earliest.TheVariants.{NonePending, Stored}
 use Rattle.translator.specs.Translator.{at}
 use Rattle.translator.specs.Order.{pass, sooner, earliest}
 use Rattle.translator.specs.Search.{later, find, choose_free, choose_held, chosen}
@@ -42,9 +39,9 @@ abbrev pub Miss : (Slot → Bool) → ℕ → List Buffer → Type 0
 Miss f m bs = (i : ℕ) → i < m → i < length bs → f (at bs i).slot ≡ false
 
 -- what a search of the first m buffers that ended so says of them
-abbrev pub FindSays : (Slot → Bool) → ℕ → List Buffer → Found → Type 0
-FindSays f m bs Nowhere = Miss f m bs
-FindSays f m bs (At n) = Hit f m bs n.0
+abbrev pub FindSays : (Slot → Bool) → ℕ → List Buffer → Option BufferNumber → Type 0
+FindSays f m bs None = Miss f m bs
+FindSays f m bs (Some n) = Hit f m bs n.0
 
 pub find_says : (f : Slot → Bool) (m : ℕ) (bs : List Buffer) → FindSays f m bs (find f (take m bs))
 unfolding find
@@ -52,10 +49,10 @@ find_says f zero bs = λ i h _. absurd (not-suc-le-zero h)
 find_says f (suc m) [] = λ i _ h. absurd (not-suc-le-zero h)
 find_says f (suc m) (b ∷ bs) = go (f b.slot) refl (find f (take m bs)) (find_says f m bs)
   where
-    go : (t : Bool) → f b.slot ≡ t → (r : Found) → FindSays f m bs r → FindSays f (suc m) (b ∷ bs) (cond t (At (record { 0 = 0 })) (later r))
+    go : (t : Bool) → f b.slot ≡ t → (r : Option BufferNumber) → FindSays f m bs r → FindSays f (suc m) (b ∷ bs) (cond t (Some (record { 0 = 0 })) (later r))
     go true e r s = record { small = suc-le-suc zero-le; inside = suc-le-suc zero-le; passes = e }
-    go false e (At n) s = record { small = suc-le-suc s.small; inside = suc-le-suc s.inside; passes = s.passes }
-    go false e Nowhere s = miss
+    go false e (Some n) s = record { small = suc-le-suc s.small; inside = suc-le-suc s.inside; passes = s.passes }
+    go false e None s = miss
       where
         miss : (i : ℕ) → i < suc m → i < length (b ∷ bs) → f (at (b ∷ bs) i).slot ≡ false
         miss zero h l = e
@@ -67,16 +64,16 @@ pub record Holder (k : Key) (m : ℕ) (bs : List Buffer) (i : ℕ) (a : Bool) : 
   pub active : is_active (at bs i).slot ≡ a
 
 -- nothing holds the key, and a free buffer takes it, or there is none
-pub record Unheld (k : Key) (m : ℕ) (bs : List Buffer) (f : Found) : Type 0 where
+pub record Unheld (k : Key) (m : ℕ) (bs : List Buffer) (f : Option BufferNumber) : Type 0 where
   pub none : Miss (holds k) m bs
   pub free : FindSays is_free m bs f
 
 abbrev pub ChosenSays : Key → ℕ → List Buffer → Choice → Type 0
-ChosenSays k m bs NoRoom = Unheld k m bs Nowhere
+ChosenSays k m bs NoRoom = Unheld k m bs None
 ChosenSays k m bs LimitReached = ⊥
 ChosenSays k m bs (Held n) = Holder k m bs n.0 true
 ChosenSays k m bs (Reused n) = Holder k m bs n.0 false
-ChosenSays k m bs (Took n) = Unheld k m bs (At n)
+ChosenSays k m bs (Took n) = Unheld k m bs (Some n)
 
 pub chosen_says : (k : Key) (m : ℕ) (bs : List Buffer) → ChosenSays k m bs (chosen k (take m bs))
 unfolding chosen
@@ -86,19 +83,19 @@ chosen_says k m bs = go (find (holds k) (take m bs)) (find_says (holds k) m bs)
     held_case n r true e = record { found = r; active = e }
     held_case n r false e = record { found = r; active = e }
 
-    free_case : Miss (holds k) m bs → (f : Found) → FindSays is_free m bs f → ChosenSays k m bs (choose_free f)
-    free_case u Nowhere r = record { none = u; free = r }
-    free_case u (At n) r = record { none = u; free = r }
+    free_case : Miss (holds k) m bs → (f : Option BufferNumber) → FindSays is_free m bs f → ChosenSays k m bs (choose_free f)
+    free_case u None r = record { none = u; free = r }
+    free_case u (Some n) r = record { none = u; free = r }
 
-    go : (f : Found) → FindSays (holds k) m bs f → ChosenSays k m bs (choose_held (take m bs) f)
-    go Nowhere u = free_case u (find is_free (take m bs)) (find_says is_free m bs)
-    go (At n) r = held_case n r (is_active (at (take m bs) n.0).slot) (ap (λ (b : Buffer). is_active b.slot) (sym (get_or-take m bs n.0 vacant r.small)))
+    go : (f : Option BufferNumber) → FindSays (holds k) m bs f → ChosenSays k m bs (choose_held (take m bs) f)
+    go None u = free_case u (find is_free (take m bs)) (find_says is_free m bs)
+    go (Some n) r = held_case n r (is_active (at (take m bs) n.0).slot) (ap (λ (b : Buffer). is_active b.slot) (sym (get_or-take m bs n.0 vacant r.small)))
 
 -- ---- a search finds the lowest
 
-abbrev pub LowestSays : (Slot → Bool) → List Buffer → Found → Type 0
-LowestSays f bs Nowhere = Unit {0}
-LowestSays f bs (At n) = (i : ℕ) → i < n.0 → f (at bs i).slot ≡ false
+abbrev pub LowestSays : (Slot → Bool) → List Buffer → Option BufferNumber → Type 0
+LowestSays f bs None = Unit {0}
+LowestSays f bs (Some n) = (i : ℕ) → i < n.0 → f (at bs i).slot ≡ false
 
 pub find_lowest : (f : Slot → Bool) (m : ℕ) (bs : List Buffer) → LowestSays f bs (find f (take m bs))
 unfolding find
@@ -106,10 +103,10 @@ find_lowest f zero bs = tt
 find_lowest f (suc m) [] = tt
 find_lowest f (suc m) (b ∷ bs) = go (f b.slot) refl (find f (take m bs)) (find_lowest f m bs)
   where
-    go : (t : Bool) → f b.slot ≡ t → (r : Found) → LowestSays f bs r → LowestSays f (b ∷ bs) (cond t (At (record { 0 = 0 })) (later r))
+    go : (t : Bool) → f b.slot ≡ t → (r : Option BufferNumber) → LowestSays f bs r → LowestSays f (b ∷ bs) (cond t (Some (record { 0 = 0 })) (later r))
     go true e r s = λ i l. absurd (not-suc-le-zero l)
-    go false e Nowhere s = tt
-    go false e (At n) s = by
+    go false e None s = tt
+    go false e (Some n) s = by
       where
         by : (i : ℕ) → i < suc n.0 → f (at (b ∷ bs) i).slot ≡ false
         by zero l = e
@@ -181,19 +178,19 @@ pub record First (bs : List Buffer) (i : ℕ) (n : BufferNumber) (p : ℕ) : Typ
   pub placed : at_place p (at bs n.0).slot ≡ true
   pub least : (j q : ℕ) → j < i → at_place q (at bs j).slot ≡ true → p ≤ q
 
-abbrev pub EarliestSays : List Buffer → ℕ → Earliest → Type 0
-EarliestSays bs i NonePending = (j : ℕ) → j < i → is_pending (at bs j).slot ≡ false
-EarliestSays bs i (Stored n p) = First bs i n p
+abbrev pub EarliestSays : List Buffer → ℕ → Option (BufferNumber × ℕ) → Type 0
+EarliestSays bs i None = (j : ℕ) → j < i → is_pending (at bs j).slot ≡ false
+EarliestSays bs i (Some (n, p)) = First bs i n p
 
 module _ (bs : List Buffer) (i : ℕ) where
   -- one more buffer, which is not pending
-  quiet : is_pending (at bs i).slot ≡ false → (e : Earliest) → EarliestSays bs i e → EarliestSays bs (suc i) e
-  quiet np NonePending s = λ j h. go j h (ℕ_discrete j i)
+  quiet : is_pending (at bs i).slot ≡ false → (e : Option (BufferNumber × ℕ)) → EarliestSays bs i e → EarliestSays bs (suc i) e
+  quiet np None s = λ j h. go j h (ℕ_discrete j i)
     where
       go : (j : ℕ) → j < suc i → Dec (j ≡ i) → is_pending (at bs j).slot ≡ false
       go j h (yes q) = ap (λ (x : ℕ). is_pending (at bs x).slot) q ∙ np
       go j h (no nq) = s j (omega (arith, h, nq))
-  quiet np (Stored n p) s =
+  quiet np (Some (n, p)) s =
       record { small = omega (arith, s.small); placed = s.placed; least = λ j q h e. go j q h e (ℕ_discrete j i) }
     where
       go : (j q : ℕ) → j < suc i → at_place q (at bs j).slot ≡ true → Dec (j ≡ i) → p ≤ q
@@ -211,23 +208,23 @@ module _ (bs : List Buffer) (i : ℕ) where
           omega (arith, same, le)
       go (no nx) = so_far j q (omega (arith, h, nx)) e
 
-  onward : (s : Slot) → (at bs i).slot ≡ s → (e : Earliest) → EarliestSays bs i e → EarliestSays bs (suc i) (sooner e s (record { 0 = i }))
+  onward : (s : Slot) → (at bs i).slot ≡ s → (e : Option (BufferNumber × ℕ)) → EarliestSays bs i e → EarliestSays bs (suc i) (sooner e s (record { 0 = i }))
   onward Empty at-s e says = quiet (ap is_pending at-s) e says
   onward (Ready s r) at-s e says = quiet (ap is_pending at-s) e says
   onward (Old s r) at-s e says = quiet (ap is_pending at-s) e says
-  onward (Pending s p) at-s NonePending says =
+  onward (Pending s p) at-s None says =
       let here : at_place p (at bs i).slot ≡ true = ap (at_place p) at-s ∙ eq-eqb p p refl in
       record {
         small = omega arith;
         placed = here;
         least = least_more p p here (omega arith) (λ j q h e. absurd (true≢false (sym (placed_pending q (at bs j).slot e) ∙ says j h)));
       }
-  onward (Pending s p) at-s (Stored n q) says = go (ltb p q) refl
+  onward (Pending s p) at-s (Some (n, q)) says = go (ltb p q) refl
     where
       here : at_place p (at bs i).slot ≡ true
       here = ap (at_place p) at-s ∙ eq-eqb p p refl
 
-      go : (x : Bool) → ltb p q ≡ x → EarliestSays bs (suc i) (cond x (Stored (record { 0 = i }) p) (Stored n q))
+      go : (x : Bool) → ltb p q ≡ x → EarliestSays bs (suc i) (cond x (Some ((record { 0 = i }), p)) (Some (n, q)))
       go true t =
           record {
             small = omega arith;
@@ -239,7 +236,7 @@ module _ (bs : List Buffer) (i : ℕ) where
           record { small = omega (arith, says.small); placed = says.placed; least = least_more p q here (ltb-false p q t) says.least }
 
 -- the pass from number i on, over what is left
-over_rest : (bs cs : List Buffer) (i : ℕ) (e : Earliest) → drop i bs ≡ cs → i + length cs ≡ length bs → EarliestSays bs i e
+over_rest : (bs cs : List Buffer) (i : ℕ) (e : Option (BufferNumber × ℕ)) → drop i bs ≡ cs → i + length cs ≡ length bs → EarliestSays bs i e
     → EarliestSays bs (length bs) (pass sooner i e cs)
 unfolding pass
 over_rest bs [] i e d l says = let n : i ≡ length bs = omega (arith, l) in subst (λ (m : ℕ). EarliestSays bs m e) n says
@@ -253,4 +250,4 @@ over_rest bs (c ∷ cs) i e d l says =
 
 pub earliest_says : (bs : List Buffer) → EarliestSays bs (length bs) (earliest bs)
 unfolding earliest
-earliest_says bs = over_rest bs bs 0 NonePending refl (omega arith) (λ j h. absurd (not-suc-le-zero h))
+earliest_says bs = over_rest bs bs 0 None refl (omega arith) (λ j h. absurd (not-suc-le-zero h))

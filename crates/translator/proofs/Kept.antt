@@ -7,6 +7,7 @@ use mathlib.Core.Bool.{Bool, true, false, cond, and-eq-true_iff, true≢false, f
 use borrow.Author.Tests.{eqb-true, eqb-false, leb-true, ltb-true, ltb-false}
 use lib.Dec.{eqb, ltb}
 use lib.ListN.{length, set, take, replicate, length-set, length-map}
+use Rattle.std.specs.Prelude.{Option, Some, None, Ok, Err}
 use Rattle.payload.specs.Payload.{padded, payload_of}
 use Rattle.payload.proofs.Laws.{zeros_of, len_of}
 use Rattle.buffer.specs.declared.Lane.{Lane}
@@ -27,21 +28,16 @@ use Rattle.buffer.proofs.Keys.{same_true, lane_true}
 use Rattle.translator.specs.declared.LowSide.{LowSide}
 use Rattle.translator.specs.declared.LowSide.TheVariants.{Idle, Running, Abandoned}
 use Rattle.translator.specs.declared.Translator.{Translator}
-use Rattle.translator.specs.declared.Found.{Found}
-use Rattle.translator.specs.declared.Found.TheVariants.{Nowhere, At}
 use Rattle.translator.specs.declared.Choice.{Choice}
 use Rattle.translator.specs.declared.Choice.TheVariants.{NoRoom, LimitReached, Held, Reused, Took}
-use Rattle.translator.specs.declared.Earliest.{Earliest}
-use Rattle.translator.specs.declared.Earliest.TheVariants.{NonePending, Stored}
-use Rattle.translator.specs.declared.StartAnswer.TheVariants.{Outside}
-use Rattle.translator.specs.declared.DeliverAnswer.TheVariants as answer
+use Rattle.translator.specs.declared.NotDelivered.TheVariants as answer
 use Rattle.translator.specs.Translator.{at, new_translator, tally}
 use Rattle.translator.specs.Search.{find}
 use Rattle.translator.specs.Limit.{held_by, may_store, permitted, NoRepeat}
 use Rattle.bools.specs.Bit.{bit}
 use Rattle.translator.specs.Valid.{at_place, RunsPending, ValidTranslator}
 use Rattle.translator.specs.Order.{waiting, before, reranked, ranked_in, ranked, earliest}
-use Rattle.translator.specs.StartSplit.{stored, start_by, start_split}
+use Rattle.translator.specs.StartSplit.{outside, stored, start_by, start_split}
 use Rattle.translator.specs.CompleteSplit.{completed, complete_at, complete_split}
 use Rattle.translator.specs.Launch.{launched, launch_at, launch_by, launch}
 use Rattle.translator.specs.Deliver.{undelivered, delivered, deliver_by, deliver}
@@ -305,7 +301,7 @@ module _ (t : Translator) (v : ValidTranslator t) where
   start_valid s l = go (start_fits s (length l)) refl
     where
       go : (x : Bool) → start_fits s (length l) ≡ x
-          → ValidTranslator (cond x (start_by t s l (permitted t.count (key_of s) (take t.count t.buffers))) (record { next = t; answer = Outside })).next
+          → ValidTranslator (cond x (start_by t s l (permitted t.count (key_of s) (take t.count t.buffers))) (record { next = t; answer = Err outside })).next
       go true e = start_by_lem s l e (permitted t.count (key_of s) (take t.count t.buffers)) (permitted_says t.count (key_of s) t.count t.buffers)
       go false e = v
 
@@ -323,9 +319,9 @@ module _ (t : Translator) (v : ValidTranslator t) where
   here_in : (n : ℕ) → n < t.count → n < length t.buffers
   here_in n used = omega (arith, used, v.most, v.four)
 
-  complete_at_lem : (k : Key) (f : Found) → FindSays (holds k) t.count t.buffers f → ValidTranslator (complete_at t f).next
-  complete_at_lem k Nowhere r = v
-  complete_at_lem k (At n) r = go (at t.buffers n.0).slot refl
+  complete_at_lem : (k : Key) (f : Option BufferNumber) → FindSays (holds k) t.count t.buffers f → ValidTranslator (complete_at t f).next
+  complete_at_lem k None r = v
+  complete_at_lem k (Some n) r = go (at t.buffers n.0).slot refl
     where
       go : (s : Slot) → (at t.buffers n.0).slot ≡ s → ValidTranslator (completed t n (at t.buffers n.0).payload s).next
       go Empty e = v
@@ -341,9 +337,9 @@ module _ (t : Translator) (v : ValidTranslator t) where
   unfolding complete_split
   complete_valid k = complete_at_lem k (find (holds k) (take t.count t.buffers)) (find_says (holds k) t.count t.buffers)
 
-  launch_at_lem : (e : Earliest) → ValidTranslator (launch_at t e).next
-  launch_at_lem NonePending = v
-  launch_at_lem (Stored n p) = go (at t.buffers n.0).slot refl
+  launch_at_lem : (e : Option (BufferNumber × ℕ)) → ValidTranslator (launch_at t e).next
+  launch_at_lem None = v
+  launch_at_lem (Some (n, p)) = go (at t.buffers n.0).slot refl
     where
       go : (s : Slot) → (at t.buffers n.0).slot ≡ s → ValidTranslator (launched t n (at t.buffers n.0).payload s).next
       go Empty e = v
@@ -374,7 +370,7 @@ module _ (t : Translator) (v : ValidTranslator t) where
       numbers = numbers_of s (at t.buffers n.0).payload.len (ap (λ (y : Slot). slot_fits y (at t.buffers n.0).payload.len) (sym e) ∙ (v.whole n.0).fits)
 
       go : (x : Bool) → suits s.pid r ≡ x
-          → ValidTranslator (cond x (record { next = record { buffers = set t.buffers n.0 b; count = t.count; low = Idle }; answer = answer.Done }) (undelivered t answer.NotInThisState)).next
+          → ValidTranslator (cond x (record { next = record { buffers = set t.buffers n.0 b; count = t.count; low = Idle }; answer = Ok tt }) (undelivered t answer.NotInThisState)).next
       go true x =
           goes_on n b Idle (in_use t v is_pending refl n.0 w)
           (record { fits = rw (numbers, len_of l (result_le r (length l) fits)) fits; zeros = zeros_of l })
@@ -403,9 +399,9 @@ module _ (t : Translator) (v : ValidTranslator t) where
       go true e = tt
       go false e = waits_else t.buffers n.0 vacant (here_in n.0 used) m.0 (eqb-false m.0 n.0 e) w
 
-  clear_at_lem : (k : Key) (f : Found) → FindSays (holds k) t.count t.buffers f → ValidTranslator (clear_at t f)
-  clear_at_lem k Nowhere r = v
-  clear_at_lem k (At n) r =
+  clear_at_lem : (k : Key) (f : Option BufferNumber) → FindSays (holds k) t.count t.buffers f → ValidTranslator (clear_at t f)
+  clear_at_lem k None r = v
+  clear_at_lem k (Some n) r =
       valid_set t v n.0 vacant (low_without n t.low) r.small vacant-whole (λ h e. absurd (false≢true e)) (λ p e. absurd (false≢true e))
       (few_set t v n.0 vacant r.small (λ z e. absurd (false≢true e)))
       (low_without_lem n r.small t.low v.running)

@@ -4,6 +4,7 @@ use mathlib.Core.Path.{◌≡◌, refl, sym, ◌∙◌, ap, subst}
 use mathlib.Core.Bool.{true, false≢true}
 use mathlib.Core.List.{List, ◌++◌}
 use lib.ListN.{length, take}
+use Rattle.std.specs.Prelude.{Ok}
 use Rattle.buffer.specs.declared.Key.{Key}
 use Rattle.buffer.specs.declared.Slot.{Slot}
 use Rattle.buffer.specs.declared.Buffer.{Buffer}
@@ -12,7 +13,6 @@ use Rattle.buffer.specs.Key.{key_of}
 use Rattle.translator.specs.declared.Translator.{Translator}
 use Rattle.translator.specs.declared.Carried.{Carried}
 use Rattle.translator.specs.declared.Carried.TheVariants.{NoneYet, LowestFree, OwnOld, Repeat}
-use Rattle.translator.specs.declared.StartAnswer.TheVariants.{Chosen}
 use Rattle.translator.specs.Limit.{permitted}
 use Rattle.translator.specs.TwoSteps.{TwoSteps}
 use Rattle.translator.specs.OnePass.{look, is_settled, carried_by, choice_of, choice_by, OnePass}
@@ -50,7 +50,7 @@ one_pass_claim_lem =
       carries = carried_so;
       exactly = λ t k c. (λ g. subst (TwoSteps t k) g (read_so t k), λ w. one_choice t k (choice_by look t k) c (read_so t k) w);
       one_holder = λ t k n valid. only_holder t k (valid.keys k) n;
-      answered = λ t s l e. chosen_answer t s l e ∙ ap Chosen (sym (pass-permitted t.count (key_of s) (take t.count t.buffers)));
+      answered = λ t s l e. chosen_answer t s l e ∙ ap Ok (sym (pass-permitted t.count (key_of s) (take t.count t.buffers)));
       of_slots = λ t k. permitted-bare t.count k t.count t.buffers ∙ sym (pass-permitted t.count k (take t.count t.buffers));
       carried_alone = carried_alone;
       settled = settled;

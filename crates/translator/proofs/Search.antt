@@ -5,6 +5,7 @@ use mathlib.Core.Bool.{Bool, true, false, cond, false≢true}
 use mathlib.Core.List.{List, [], ◌∷◌}
 use native.Mathlib.Omega.{arith}
 use lib.ListN.{take, drop}
+use Rattle.std.specs.Prelude.{Option, Some, None}
 use Rattle.buffer.specs.declared.Key.{Key}
 use Rattle.buffer.specs.declared.StartSplit.{StartSplit}
 use Rattle.buffer.specs.declared.Slot.{Slot}
@@ -18,8 +19,6 @@ use Rattle.buffer.specs.Key.{key_of, same_lane}
 use Rattle.buffer.specs.Standing.{standing}
 use Rattle.buffer.specs.Buffer.{holds, is_active, is_free, active_in}
 use Rattle.buffer.proofs.Keys.{lane_refl, same_true}
-use Rattle.translator.specs.declared.Found.{Found}
-use Rattle.translator.specs.declared.Found.TheVariants.{Nowhere, At}
 use Rattle.translator.specs.declared.Carried.{Carried}
 use Rattle.translator.specs.declared.Carried.TheVariants.{NoneYet, LowestFree, OwnOld, Repeat}
 use Rattle.translator.specs.declared.Choice.TheVariants.{NoRoom, LimitReached, Held, Reused, Took}
@@ -30,28 +29,28 @@ use Rattle.translator.specs.Limit.{held_by, may_store, limited, permitted}
 use Rattle.translator.specs.Order.{pass}
 use Rattle.translator.specs.Search.{later, find, choose_held, chosen}
 use Rattle.translator.specs.OnePass.{past, counted, look, is_settled, held_so_far, carried_by, choice_of}
-use Rattle.translator.proofs.Passes.{Ahead}
+use Rattle.translator.proofs.Passes.{Ahead, starting}
 
 -- the step of the search for a key
 abbrev pub looking : Key → Carried → Slot → BufferNumber → Carried
 looking k c s n = look c n s k
 
 -- what is carried from number n on, by the holder that was found, or else d
-abbrev held_at : List Buffer → ℕ → Found → ℕ → Carried → Carried
-held_at bs n Nowhere h d = d
-held_at bs n (At i) h d = cond (is_active (at bs i.0).slot) (Repeat (record { 0 = n + i.0 })) (OwnOld (record { 0 = n + i.0 }) h)
+abbrev held_at : List Buffer → ℕ → Option BufferNumber → ℕ → Carried → Carried
+held_at bs n None h d = d
+held_at bs n (Some i) h d = cond (is_active (at bs i.0).slot) (Repeat (record { 0 = n + i.0 })) (OwnOld (record { 0 = n + i.0 }) h)
 
-abbrev free_at : ℕ → Found → ℕ → Carried
-free_at n Nowhere h = NoneYet h
-free_at n (At i) h = LowestFree (record { 0 = n + i.0 }) h
+abbrev free_at : ℕ → Option BufferNumber → ℕ → Carried
+free_at n None h = NoneYet h
+free_at n (Some i) h = LowestFree (record { 0 = n + i.0 }) h
 
-held-later : (b : Buffer) (bs : List Buffer) (n : ℕ) (f : Found) (h : ℕ) (d : Carried) → held_at bs (suc n) f h d ≡ held_at (b ∷ bs) n (later f) h d
-held-later b bs n Nowhere h d = refl
-held-later b bs n (At i) h d = let e : suc n + i.0 ≡ n + suc i.0 = omega arith in rw e
+held-later : (b : Buffer) (bs : List Buffer) (n : ℕ) (f : Option BufferNumber) (h : ℕ) (d : Carried) → held_at bs (suc n) f h d ≡ held_at (b ∷ bs) n (later f) h d
+held-later b bs n None h d = refl
+held-later b bs n (Some i) h d = let e : suc n + i.0 ≡ n + suc i.0 = omega arith in rw e
 
-free_later : (n : ℕ) (f : Found) (h : ℕ) → free_at (suc n) f h ≡ free_at n (later f) h
-free_later n Nowhere h = refl
-free_later n (At i) h = let e : suc n + i.0 ≡ n + suc i.0 = omega arith in rw e
+free_later : (n : ℕ) (f : Option BufferNumber) (h : ℕ) → free_at (suc n) f h ≡ free_at n (later f) h
+free_later n None h = refl
+free_later n (Some i) h = let e : suc n + i.0 ≡ n + suc i.0 = omega arith in rw e
 
 -- what holds of each standing to the key k holds of a slot's
 by_standing : (k : Key) (P : Standing → Bool → Bool → Type 0) (s : Slot) → (is_active s ≡ true → P Holds true false) → (is_active s ≡ false → P Reusable true true)
@@ -92,11 +91,11 @@ module _ (k : Key) where
 
   module _ (n : ℕ) (b : Buffer) (bs : List Buffer) where
     -- the first buffer is the holder
-    first_held : is_active b.slot ≡ true → (h : ℕ) (d : Carried) → pass (looking k) (suc n) (Repeat (record { 0 = n })) bs ≡ held_at (b ∷ bs) n (At (record { 0 = 0 })) h d
+    first_held : is_active b.slot ≡ true → (h : ℕ) (d : Carried) → pass (looking k) (suc n) (Repeat (record { 0 = n })) bs ≡ held_at (b ∷ bs) n (Some (record { 0 = 0 })) h d
     first_held e h d = let z : n + 0 ≡ n = omega arith in settled (suc n) (record { 0 = n }) bs ∙ rw (e, z)
 
     first_old : is_active b.slot ≡ false → (h : ℕ) (d : Carried)
-        → pass (looking k) (suc n) (OwnOld (record { 0 = n }) (h + one b)) bs ≡ held_at (b ∷ bs) n (At (record { 0 = 0 })) (all h (b ∷ bs)) d
+        → pass (looking k) (suc n) (OwnOld (record { 0 = n }) (h + one b)) bs ≡ held_at (b ∷ bs) n (Some (record { 0 = 0 })) (all h (b ∷ bs)) d
     first_old e h d = let z : n + 0 ≡ n = omega arith in own_old (suc n) (record { 0 = n }) (h + one b) bs ∙ rw (e, z, all_later h b bs)
 
   -- with a free buffer in hand, only the key and the lane's count
@@ -110,7 +109,7 @@ module _ (k : Key) where
       lowest (suc n) m (h + one b) bs ∙ rw (all_later h b bs) (held-later b bs n (find (holds k) bs) t (LowestFree m t)) in
       by_standing k
       (λ st x y. pass (looking k) (suc n) (counted (one b) (past (LowestFree m h) (record { 0 = n }) st)) bs
-      ≡ held_at (b ∷ bs) n (cond x (At (record { 0 = 0 })) (later (find (holds k) bs))) t (LowestFree m t))
+      ≡ held_at (b ∷ bs) n (cond x (Some (record { 0 = 0 })) (later (find (holds k) bs))) t (LowestFree m t))
       b.slot (λ e. first_held n b bs e t (LowestFree m t)) (λ e. first_old n b bs e h (LowestFree m t)) next next
 
   -- one pass is the two steps and the count
@@ -119,7 +118,7 @@ module _ (k : Key) where
   one_pass n h [] = ap NoneYet (all_none h)
   one_pass n h (b ∷ bs) =
       let t = all h (b ∷ bs) in
-      let here : Carried = free_at n (At (record { 0 = 0 })) t in
+      let here : Carried = free_at n (Some (record { 0 = 0 })) t in
       let further : Carried = free_at n (later (find is_free bs)) t in
       let z : n + 0 ≡ n = omega arith in
       let free : pass (looking k) (suc n) (LowestFree (record { 0 = n }) (h + one b)) bs ≡ held_at (b ∷ bs) n (later (find (holds k) bs)) t here =
@@ -128,19 +127,19 @@ module _ (k : Key) where
       one_pass (suc n) (h + one b) bs ∙ rw (all_later h b bs, free_later n (find is_free bs) t) (held-later b bs n (find (holds k) bs) t further) in
       by_standing k
       (λ st x y. pass (looking k) (suc n) (counted (one b) (past (NoneYet h) (record { 0 = n }) st)) bs
-      ≡ held_at (b ∷ bs) n (cond x (At (record { 0 = 0 })) (later (find (holds k) bs))) t (free_at n (cond y (At (record { 0 = 0 })) (later (find is_free bs))) t))
+      ≡ held_at (b ∷ bs) n (cond x (Some (record { 0 = 0 })) (later (find (holds k) bs))) t (free_at n (cond y (Some (record { 0 = 0 })) (later (find is_free bs))) t))
       b.slot (λ e. first_held n b bs e t further) (λ e. first_old n b bs e h here) free busy
 
 -- what is carried past all, by the buffer with the key, the free one and how many the lane holds
-abbrev pub ending : List Buffer → Found → Found → ℕ → Carried
-ending bs (At i) g h = cond (is_active (at bs i.0).slot) (Repeat i) (OwnOld i h)
-ending bs Nowhere (At i) h = LowestFree i h
-ending bs Nowhere Nowhere h = NoneYet h
+abbrev pub ending : List Buffer → Option BufferNumber → Option BufferNumber → ℕ → Carried
+ending bs (Some i) g h = cond (is_active (at bs i.0).slot) (Repeat i) (OwnOld i h)
+ending bs None (Some i) h = LowestFree i h
+ending bs None None h = NoneYet h
 
-from_zero : (bs : List Buffer) (f g : Found) (h : ℕ) → held_at bs 0 f h (free_at 0 g h) ≡ ending bs f g h
-from_zero bs (At i) g h = let z : 0 + i.0 ≡ i.0 = omega arith in rw z
-from_zero bs Nowhere (At i) h = let z : 0 + i.0 ≡ i.0 = omega arith in rw z
-from_zero bs Nowhere Nowhere h = refl
+from_zero : (bs : List Buffer) (f g : Option BufferNumber) (h : ℕ) → held_at bs 0 f h (free_at 0 g h) ≡ ending bs f g h
+from_zero bs (Some i) g h = let z : 0 + i.0 ≡ i.0 = omega arith in rw z
+from_zero bs None (Some i) h = let z : 0 + i.0 ≡ i.0 = omega arith in rw z
+from_zero bs None None h = refl
 
 pub pass-ending : (k : Key) (bs : List Buffer) → carried_by look k bs ≡ ending bs (find (holds k) bs) (find is_free bs) (held_by k.lane bs)
 pass-ending k bs =
@@ -148,10 +147,10 @@ pass-ending k bs =
     one_pass k 0 0 bs ∙ rw z (from_zero bs (find (holds k) bs) (find is_free bs) (held_by k.lane bs))
 
 -- what is read off is the choice under the limit
-read_off : (b h : ℕ) (bs : List Buffer) (f g : Found) → find is_free bs ≡ g → choice_of b (ending bs f g h) ≡ limited (may_store b h) (choose_held bs f)
-read_off b h bs Nowhere Nowhere e = rw e (elim (may_store b h) as (λ x. cond x NoRoom LimitReached ≡ limited x NoRoom) [ true ↦ refl | false ↦ refl ])
-read_off b h bs Nowhere (At i) e = rw e (elim (may_store b h) as (λ x. cond x (Took i) LimitReached ≡ limited x (Took i)) [ true ↦ refl | false ↦ refl ])
-read_off b h bs (At i) g e = go (is_active (at bs i.0).slot)
+read_off : (b h : ℕ) (bs : List Buffer) (f g : Option BufferNumber) → find is_free bs ≡ g → choice_of b (ending bs f g h) ≡ limited (may_store b h) (choose_held bs f)
+read_off b h bs None None e = rw e (elim (may_store b h) as (λ x. cond x NoRoom LimitReached ≡ limited x NoRoom) [ true ↦ refl | false ↦ refl ])
+read_off b h bs None (Some i) e = rw e (elim (may_store b h) as (λ x. cond x (Took i) LimitReached ≡ limited x (Took i)) [ true ↦ refl | false ↦ refl ])
+read_off b h bs (Some i) g e = go (is_active (at bs i.0).slot)
   where
     go : (y : Bool) → choice_of b (cond y (Repeat i) (OwnOld i h)) ≡ limited (may_store b h) (cond y (Held i) (Reused i))
     go true = elim (may_store b h) as (λ x. Held i ≡ limited x (Held i)) [ true ↦ refl | false ↦ refl ]
@@ -249,12 +248,12 @@ unfolding look
 few c n s k e l = rw e (omega (arith, one_more c n (standing k s) (active_in k.lane s), l))
 
 -- it starts with nothing in hand, ..
-pub looking_from : (k : Key) (m : ℕ) (ss : List Slot) → Ahead (looking k) m ss (carried_by look k (take m (bare ss))) 0 (NoneYet 0)
-looking_from k m ss = record { rest = refl }
+pub looking_from : (k : Key) (m : ℕ) (ss : List Slot) {us : List Slot} → us ≡ take m ss → Ahead (looking k) us (carried_by look k (take m (bare ss))) 0 (NoneYet 0)
+looking_from k m ss e = starting (looking k) (NoneYet 0) m ss e
 
 -- .. and may end where it is settled
-pub ends_settled : (k : Key) {m : ℕ} {ss : List Slot} {w : Carried} {i : ℕ} (c : Carried) → Ahead (looking k) m ss w i c → is_settled c ≡ true → c ≡ w
+pub ends_settled : (k : Key) {ss : List Slot} {w : Carried} {i : ℕ} (c : Carried) → Ahead (looking k) ss w i c → is_settled c ≡ true → c ≡ w
 ends_settled k (NoneYet h) a e = absurd (false≢true e)
 ends_settled k (LowestFree n h) a e = absurd (false≢true e)
 ends_settled k (OwnOld n h) a e = absurd (false≢true e)
-ends_settled k {m} {ss} {i = i} (Repeat n) a e = sym (settled k i n (drop i (take m (bare ss)))) ∙ a.rest
+ends_settled k {ss} {i = i} (Repeat n) a e = sym (settled k i n (drop i (bare ss))) ∙ a.rest

@@ -4,6 +4,7 @@ use mathlib.Core.Path.{◌≡◌, refl, ap}
 use mathlib.Core.List.{List, [], ◌∷◌}
 use native.Mathlib.Omega.{arith}
 use lib.ListN.{length}
+use Rattle.std.specs.Prelude.{Result, Ok, Err}
 use Rattle.buffer.specs.declared.Key.{Key}
 use Rattle.buffer.specs.declared.BufferNumber.{BufferNumber}
 use Rattle.buffer.specs.declared.DeviceResult.TheVariants.{Data0}
@@ -18,8 +19,7 @@ use Rattle.translator.specs.declared.Carried.{Carried}
 use Rattle.translator.specs.declared.Carried.TheVariants.{NoneYet, LowestFree, OwnOld, Repeat}
 use Rattle.translator.specs.declared.Choice.{Choice}
 use Rattle.translator.specs.declared.Choice.TheVariants.{NoRoom, LimitReached, Held, Reused, Took}
-use Rattle.translator.specs.declared.StartAnswer.{StartAnswer}
-use Rattle.translator.specs.declared.StartAnswer.TheVariants.{Outside, Chosen}
+use Rattle.translator.specs.declared.Outside.{Outside}
 use Rattle.translator.specs.Slots.{bare}
 use Rattle.translator.specs.Order.{pass}
 use Rattle.translator.specs.Search.{find, chosen}
@@ -46,9 +46,9 @@ told (Held n) = 20
 told (Reused n) = 30
 told (Took n) = n.0
 
-abbrev answer_told : StartAnswer → ℕ
-answer_told Outside = 12
-answer_told (Chosen c) = told c
+abbrev answer_told : Result Choice Outside → ℕ
+answer_told (Err o) = 12
+answer_told (Ok c) = told c
 
 abbrev settled_told : Carried → ℕ
 settled_told (NoneYet h) = 10

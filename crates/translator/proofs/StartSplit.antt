@@ -4,6 +4,7 @@ use mathlib.Core.Path.{◌≡◌, refl}
 use mathlib.Core.Bool.{true}
 use mathlib.Core.List.{List}
 use lib.ListN.{length, take}
+use Rattle.std.specs.Prelude.{Ok}
 use Rattle.payload.specs.declared.Payload.{Payload}
 use Rattle.payload.specs.Payload.{payload_of}
 use Rattle.buffer.specs.declared.Key.{Key}
@@ -17,7 +18,6 @@ use Rattle.buffer.specs.declared.BufferNumber.{BufferNumber}
 use Rattle.translator.specs.declared.Translator.{Translator}
 use Rattle.translator.specs.declared.Choice.{Choice}
 use Rattle.translator.specs.declared.Choice.TheVariants.{NoRoom, LimitReached, Held, Reused, Took}
-use Rattle.translator.specs.declared.StartAnswer.TheVariants.{Chosen}
 use Rattle.translator.specs.Limit.{permitted}
 use Rattle.translator.specs.Translator.{with_buffer}
 use Rattle.translator.specs.Slots.{slots_in, bare}
@@ -39,7 +39,7 @@ unfolding start_split
 by_choice t s l c f e g = rw (f, ← e, ← g)
 
 -- and is answered
-by_answer : (t : Translator) (s : StartSplit) (l : List ℕ) (c : Choice) → (start_by t s l c).answer ≡ Chosen c
+by_answer : (t : Translator) (s : StartSplit) (l : List ℕ) (c : Choice) → (start_by t s l c).answer ≡ Ok c
 by_answer t s l NoRoom = refl
 by_answer t s l LimitReached = refl
 by_answer t s l (Held n) = refl
@@ -47,6 +47,6 @@ by_answer t s l (Reused n) = refl
 by_answer t s l (Took n) = refl
 
 pub chosen_answer : (t : Translator) (s : StartSplit) (l : List ℕ) → start_fits s (length l) ≡ true
-    → (start_split t s l).answer ≡ Chosen (permitted t.count (key_of s) (take t.count t.buffers))
+    → (start_split t s l).answer ≡ Ok (permitted t.count (key_of s) (take t.count t.buffers))
 unfolding start_split
 chosen_answer t s l e = rw e (by_answer t s l (permitted t.count (key_of s) (take t.count t.buffers)))

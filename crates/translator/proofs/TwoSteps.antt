@@ -8,6 +8,7 @@ use borrow.Author.Tests.{ltb-true, ltb-false}
 use lib.Dec.{ltb}
 use lib.ListN.{length, take, length-take}
 use lib.Seq.{get_or-take}
+use Rattle.std.specs.Prelude.{Option, Some, None}
 use Rattle.buffer.specs.declared.Key.{Key}
 use Rattle.buffer.specs.declared.Slot.{Slot}
 use Rattle.buffer.specs.declared.Buffer.{Buffer}
@@ -16,8 +17,6 @@ use Rattle.buffer.specs.Buffer.{vacant, is_active, is_free, holds}
 use Rattle.buffer.specs.Words.{Holding, OldWith, With, Vacated}
 use Rattle.buffer.proofs.Words.{holding, old, not_both, with_holds, holds_with, vacated, vacated_free}
 use Rattle.translator.specs.declared.Translator.{Translator}
-use Rattle.translator.specs.declared.Found.{Found}
-use Rattle.translator.specs.declared.Found.TheVariants.{Nowhere, At}
 use Rattle.translator.specs.declared.Carried.{Carried}
 use Rattle.translator.specs.declared.Carried.TheVariants.{NoneYet, LowestFree, OwnOld, Repeat}
 use Rattle.translator.specs.declared.Choice.{Choice}
@@ -25,7 +24,7 @@ use Rattle.translator.specs.declared.Choice.TheVariants.{NoRoom, LimitReached, H
 use Rattle.translator.specs.Translator.{at}
 use Rattle.translator.specs.Search.{find}
 use Rattle.translator.specs.Limit.{held_by, may_store, AtLimit}
-use Rattle.translator.specs.TwoSteps.{InUse, Buffered, Lowest, None, TwoSteps}
+use Rattle.translator.specs.TwoSteps.{InUse, Buffered, Lowest, NoBuffer, TwoSteps}
 use Rattle.translator.specs.Valid.{Apart}
 use Rattle.translator.specs.OnePass.{look, carried_by, choice_of, Carries}
 use Rattle.translator.proofs.Search.{ending, pass-ending}
@@ -68,7 +67,7 @@ module _ (t : Translator) where
   -- ---- a word P and the test f that says it
 
   module _ (f : Slot → Bool) (P : Slot → Type 0) (to : (s : Slot) → f s ≡ true → P s) (from : (s : Slot) → P s → f s ≡ true) where
-    none_of : Miss f t.count t.buffers → None P t
+    none_of : Miss f t.count t.buffers → NoBuffer P t
     none_of m n r = true≢false (sym (from (slot n.0) r.so) ∙ m n.0 (small n.0 r.in_use) (inside n.0 r.in_use))
 
     lowest_of : (n : BufferNumber) → Hit f t.count t.buffers n.0 → ((i : ℕ) → i < n.0 → f (slot i) ≡ false) → Lowest P t n
@@ -103,16 +102,16 @@ module _ (t : Translator) where
         held n w h true e = (w, record { in_use = w.one.in_use; so = holding k (slot n.0) h e })
         held n w h false e = (w, (record { in_use = w.one.in_use; so = old k (slot n.0) h e }, refl))
 
-        unkeyed : Miss (holds k) t.count t.buffers → None (With k) t
+        unkeyed : Miss (holds k) t.count t.buffers → NoBuffer (With k) t
         unkeyed = none_of (holds k) (With k) (holds_with k) (with_holds k)
 
-        go : (f : Found) → FindSays (holds k) t.count t.buffers f → LowestSays (holds k) t.buffers f
-            → (g : Found) → FindSays is_free t.count t.buffers g → LowestSays is_free t.buffers g → Carries t k (ending in_use f g (held_by k.lane in_use))
-        go (At n) s l g u m =
+        go : (f : Option BufferNumber) → FindSays (holds k) t.count t.buffers f → LowestSays (holds k) t.buffers f
+            → (g : Option BufferNumber) → FindSays is_free t.count t.buffers g → LowestSays is_free t.buffers g → Carries t k (ending in_use f g (held_by k.lane in_use))
+        go (Some n) s l g u m =
             held n (keyed n s l) s.passes (is_active (at in_use n.0).slot)
             (ap (λ (b : Buffer). is_active b.slot) (sym (get_or-take t.count t.buffers n.0 vacant s.small)))
-        go Nowhere s l (At n) u m = (unkeyed s, (lowest_of is_free Vacated vacated vacated_free n u m, refl))
-        go Nowhere s l Nowhere u m = (unkeyed s, (none_of is_free Vacated vacated vacated_free u, refl))
+        go None s l (Some n) u m = (unkeyed s, (lowest_of is_free Vacated vacated vacated_free n u m, refl))
+        go None s l None u m = (unkeyed s, (none_of is_free Vacated vacated vacated_free u, refl))
 
     -- what is read off under the limit
     by_limit : (h : ℕ) → h ≡ held_by k.lane in_use → (c : Choice) → (¬ (AtLimit k.lane t) → TwoSteps t k c)

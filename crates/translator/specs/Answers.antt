@@ -1,5 +1,6 @@
 -- What document 01 calls each answer. A reader must believe: these are the numbers of its table and USB's PID values.
-use Rattle.std.specs.Prelude.{ℕ, Bool, ◌&&◌, cond, leb}
+use Rattle.std.specs.Prelude.{ℕ, Bool, ◌&&◌, cond, leb, Result, Ok, Err}
+use Rattle.buffer.specs.declared.StartSplit.{StartSplit}
 use Rattle.buffer.specs.declared.Lane.{Lane}
 use Rattle.buffer.specs.declared.Lane.TheVariants.{Zero, One}
 use Rattle.buffer.specs.declared.Pid.{Pid}
@@ -9,14 +10,13 @@ use Rattle.buffer.specs.declared.DeviceResult.TheVariants as result
 use Rattle.buffer.specs.Lengths.{is_data}
 use Rattle.translator.specs.declared.Choice.{Choice}
 use Rattle.translator.specs.declared.Choice.TheVariants.{NoRoom, LimitReached, Held, Reused, Took}
-use Rattle.translator.specs.declared.StartAnswer.{StartAnswer}
-use Rattle.translator.specs.declared.StartAnswer.TheVariants as start
-use Rattle.translator.specs.declared.CompleteAnswer.{CompleteAnswer}
-use Rattle.translator.specs.declared.CompleteAnswer.TheVariants.{NoMatch, NotYet, Gives}
-use Rattle.translator.specs.declared.LaunchAnswer.{LaunchAnswer}
-use Rattle.translator.specs.declared.LaunchAnswer.TheVariants.{NothingPending, Occupied, Launches}
-use Rattle.translator.specs.declared.DeliverAnswer.{DeliverAnswer}
-use Rattle.translator.specs.declared.DeliverAnswer.TheVariants as deliver
+use Rattle.translator.specs.declared.Outside.{Outside}
+use Rattle.translator.specs.declared.NoResult.{NoResult}
+use Rattle.translator.specs.declared.NoResult.TheVariants.{NoMatch, NotYet}
+use Rattle.translator.specs.declared.NotLaunched.{NotLaunched}
+use Rattle.translator.specs.declared.NotLaunched.TheVariants.{NothingPending, Occupied}
+use Rattle.translator.specs.declared.NotDelivered.{NotDelivered}
+use Rattle.translator.specs.declared.NotDelivered.TheVariants as deliver
 
 -- Answers 2 to 8 are the refusals.
 abbrev pub is_refusal : ℕ → Bool
@@ -31,9 +31,9 @@ choice_number (Reused n) = 0
 choice_number (Took n) = 0
 
 -- 6 a number or length outside the rules
-abbrev pub start_number : StartAnswer → ℕ
-start_number start.Outside = 6
-start_number (start.Chosen c) = choice_number c
+abbrev pub start_number : Result Choice Outside → ℕ
+start_number (Err o) = 6
+start_number (Ok c) = choice_number c
 
 -- 1 data, 9 the device's handshake
 abbrev pub result_number : DeviceResult → ℕ
@@ -59,18 +59,18 @@ pid_number pid.In = 9
 pid_number pid.Setup = 13
 
 -- 2 STALL, 4 NYET
-abbrev pub complete_number : CompleteAnswer → ℕ
-complete_number NoMatch = 2
-complete_number NotYet = 4
-complete_number (Gives r) = result_number r
+abbrev pub complete_number : Result DeviceResult NoResult → ℕ
+complete_number (Err NoMatch) = 2
+complete_number (Err NotYet) = 4
+complete_number (Ok r) = result_number r
 
 -- 3 nothing to give, 8 not in this state, 1 data
-abbrev pub launch_number : LaunchAnswer → ℕ
-launch_number NothingPending = 3
-launch_number Occupied = 8
-launch_number (Launches s) = 1
+abbrev pub launch_number : Result StartSplit NotLaunched → ℕ
+launch_number (Err NothingPending) = 3
+launch_number (Err Occupied) = 8
+launch_number (Ok s) = 1
 
-abbrev pub deliver_number : DeliverAnswer → ℕ
-deliver_number deliver.Outside = 6
-deliver_number deliver.NotInThisState = 8
-deliver_number deliver.Done = 0
+abbrev pub deliver_number : Result (Unit {0}) NotDelivered → ℕ
+deliver_number (Err deliver.Outside) = 6
+deliver_number (Err deliver.NotInThisState) = 8
+deliver_number (Ok o) = 0

@@ -1,6 +1,6 @@
 -- Three cases beside those of the bench table (crate hub, specs/Cases), in lane 0 of a new translator with three buffers.
 -- A reader must believe: each row has the calls of its case, and what document 01 answers to each.
-use Rattle.std.specs.Prelude.{ℕ, ◌≡◌, Bool, true, false, ◌&&◌, List, [], ◌∷◌, eqb, replicate}
+use Rattle.std.specs.Prelude.{ℕ, ◌≡◌, Bool, true, false, ◌&&◌, List, [], ◌∷◌, eqb, replicate, Result, Ok, Err}
 use Rattle.payload.specs.Bytes.{same_bytes}
 use Rattle.payload.specs.Payload.{content}
 use Rattle.buffer.specs.declared.Lane.{Lane}
@@ -15,10 +15,10 @@ use Rattle.buffer.specs.declared.DeviceResult.{DeviceResult}
 use Rattle.buffer.specs.Key.{key_with}
 use Rattle.buffer.specs.declared.DeviceResult.TheVariants.{Ack, Data0, Data1}
 use Rattle.translator.specs.declared.Translator.{Translator}
-use Rattle.translator.specs.declared.CompleteAnswer.{CompleteAnswer}
-use Rattle.translator.specs.declared.CompleteAnswer.TheVariants.{NoMatch, NotYet, Gives}
-use Rattle.translator.specs.declared.LaunchAnswer.{LaunchAnswer}
-use Rattle.translator.specs.declared.LaunchAnswer.TheVariants.{NothingPending, Occupied, Launches}
+use Rattle.translator.specs.declared.NoResult.{NoResult}
+use Rattle.translator.specs.declared.NoResult.TheVariants.{NoMatch, NotYet}
+use Rattle.translator.specs.declared.NotLaunched.{NotLaunched}
+use Rattle.translator.specs.declared.NotLaunched.TheVariants.{NothingPending, Occupied}
 use Rattle.translator.specs.Translator.{new_translator}
 use Rattle.translator.specs.Answers.{start_number, result_pid, complete_number, pid_number, deliver_number}
 use Rattle.translator.specs.StartSplit as starting
@@ -55,15 +55,15 @@ split p a e = split_in Zero p a e
 abbrev pub in_key : ℕ → ℕ → Key
 in_key a e = key_with Zero (record { 0 = a }) e direction.In
 
-abbrev pub complete_said : CompleteAnswer → List ℕ → Said
-complete_said NoMatch l = plain 2
-complete_said NotYet l = plain 4
-complete_said (Gives r) l = record { number = complete_number (Gives r); pid = result_pid r; address = 0; endpoint = 0; bytes = l }
+abbrev pub complete_said : Result DeviceResult NoResult → List ℕ → Said
+complete_said (Err NoMatch) l = plain 2
+complete_said (Err NotYet) l = plain 4
+complete_said (Ok r) l = record { number = complete_number (Ok r); pid = result_pid r; address = 0; endpoint = 0; bytes = l }
 
-abbrev pub launch_said : LaunchAnswer → List ℕ → Said
-launch_said NothingPending l = plain 3
-launch_said Occupied l = plain 8
-launch_said (Launches s) l = record { number = 1; pid = pid_number s.pid; address = s.address.0; endpoint = s.endpoint; bytes = l }
+abbrev pub launch_said : Result StartSplit NotLaunched → List ℕ → Said
+launch_said (Err NothingPending) l = plain 3
+launch_said (Err Occupied) l = plain 8
+launch_said (Ok s) l = record { number = 1; pid = pid_number s.pid; address = s.address.0; endpoint = s.endpoint; bytes = l }
 
 pub record Answered : Type 0 where
   pub next : Translator

@@ -1,5 +1,5 @@
 -- What is shown of the translator's rules. A reader must believe the rules and these statements; the proofs are in proofs/.
-use Rattle.std.specs.Prelude.{ℕ, ◌≤◌, ◌<◌, ◌≡◌, true, false, List, length}
+use Rattle.std.specs.Prelude.{ℕ, ◌≤◌, ◌<◌, ◌≡◌, true, false, List, length, Ok, Err}
 use Rattle.payload.specs.Payload.{payload_of}
 use Rattle.buffer.specs.declared.Lane.{Lane}
 use Rattle.buffer.specs.declared.Key.{Key}
@@ -14,8 +14,7 @@ use Rattle.buffer.specs.Buffer.{vacant, is_pending, is_active, holds, in_lane}
 use Rattle.translator.specs.declared.LowSide.TheVariants.{Idle, Running, Abandoned}
 use Rattle.translator.specs.declared.Translator.{Translator}
 use Rattle.translator.specs.declared.Choice.TheVariants.{LimitReached, Held, Reused, Took}
-use Rattle.translator.specs.declared.StartAnswer.TheVariants.{Chosen}
-use Rattle.translator.specs.declared.LaunchAnswer.TheVariants.{NothingPending, Launches}
+use Rattle.translator.specs.declared.NotLaunched.TheVariants.{NothingPending}
 use Rattle.translator.specs.Translator.{at, new_translator, emptied}
 use Rattle.translator.specs.Valid.{at_place, ValidTranslator}
 use Rattle.translator.specs.Order.{ranked}
@@ -62,8 +61,8 @@ pub record Least (t : Translator) (s : StartSplit) : Type 0 where
   pub payload : (launch t).payload ≡ (at t.buffers number.0).payload
 
 pub record LaunchesEarliest : Type 0 where
-  pub gives : (t : Translator) (s : StartSplit) → ValidTranslator t → (launch t).answer ≡ Launches s → Least t s
-  pub nothing : (t : Translator) → ValidTranslator t → (launch t).answer ≡ NothingPending → (j : ℕ) → is_pending (at t.buffers j).slot ≡ false
+  pub gives : (t : Translator) (s : StartSplit) → ValidTranslator t → (launch t).answer ≡ Ok s → Least t s
+  pub nothing : (t : Translator) → ValidTranslator t → (launch t).answer ≡ Err NothingPending → (j : ℕ) → is_pending (at t.buffers j).slot ≡ false
 
 -- a stored start-split is in the buffer that was chosen, with its payload, behind all others in the order of acceptance
 pub record Last (t : Translator) (s : StartSplit) (l : List ℕ) (n : BufferNumber) : Type 0 where
@@ -72,8 +71,8 @@ pub record Last (t : Translator) (s : StartSplit) (l : List ℕ) (n : BufferNumb
   pub last : (j q : ℕ) → at_place q (at (start_split t s l).next.buffers j).slot ≡ true → ¬ (j ≡ n.0) → q < place
 
 pub record StoredLast : Type 0 where
-  pub reused : (t : Translator) (s : StartSplit) (l : List ℕ) (n : BufferNumber) → (start_split t s l).answer ≡ Chosen (Reused n) → Last t s l n
-  pub took : (t : Translator) (s : StartSplit) (l : List ℕ) (n : BufferNumber) → (start_split t s l).answer ≡ Chosen (Took n) → Last t s l n
+  pub reused : (t : Translator) (s : StartSplit) (l : List ℕ) (n : BufferNumber) → (start_split t s l).answer ≡ Ok (Reused n) → Last t s l n
+  pub took : (t : Translator) (s : StartSplit) (l : List ℕ) (n : BufferNumber) → (start_split t s l).answer ≡ Ok (Took n) → Last t s l n
 
 -- a complete-split gives the same again, ..
 abbrev pub SameAgain : Type 0
@@ -82,7 +81,7 @@ SameAgain = (t : Translator) (k : Key) → complete_split (complete_split t k).n
 -- .. and an old buffer stays as it is until a start-split takes it or it is emptied
 pub record OldKept : Type 0 where
   pub start : (t : Translator) (s o : StartSplit) (r : DeviceResult) (l : List ℕ) (i : ℕ) → (at t.buffers i).slot ≡ Old o r
-      → ¬ ((start_split t s l).answer ≡ Chosen (Reused (record { 0 = i }))) → ¬ ((start_split t s l).answer ≡ Chosen (Took (record { 0 = i })))
+      → ¬ ((start_split t s l).answer ≡ Ok (Reused (record { 0 = i }))) → ¬ ((start_split t s l).answer ≡ Ok (Took (record { 0 = i })))
       → at (start_split t s l).next.buffers i ≡ at t.buffers i
   pub complete : (t : Translator) (k : Key) (o : StartSplit) (r : DeviceResult) (i : ℕ) → (at t.buffers i).slot ≡ Old o r
       → at (complete_split t k).next.buffers i ≡ at t.buffers i
@@ -97,13 +96,13 @@ AbandonedDropped = (t : Translator) (r : DeviceResult) (l : List ℕ) → t.low 
 -- The limit of a lane, exactly: a start-split is refused for it where storing would pass it and is no repeat, whatever other buffer is old
 -- or empty, ..
 pub record LaneLimit : Type 0 where
-  pub reached : (t : Translator) (s : StartSplit) (l : List ℕ) → ValidTranslator t → (start_split t s l).answer ≡ Chosen LimitReached
+  pub reached : (t : Translator) (s : StartSplit) (l : List ℕ) → ValidTranslator t → (start_split t s l).answer ≡ Ok LimitReached
       → AtLimit s.lane t × NoRepeat (key_of s) t
   pub refused : (t : Translator) (s : StartSplit) (l : List ℕ) → ValidTranslator t → start_fits s (length l) ≡ true
-      → AtLimit s.lane t → NoRepeat (key_of s) t → (start_split t s l).answer ≡ Chosen LimitReached
+      → AtLimit s.lane t → NoRepeat (key_of s) t → (start_split t s l).answer ≡ Ok LimitReached
   -- .. and a repeat of a key held pending or ready is answered as ever
   pub repeated : (t : Translator) (s : StartSplit) (l : List ℕ) (n : BufferNumber) → ValidTranslator t → start_fits s (length l) ≡ true
-      → holds (key_of s) (at t.buffers n.0).slot ≡ true → is_active (at t.buffers n.0).slot ≡ true → (start_split t s l).answer ≡ Chosen (Held n)
+      → holds (key_of s) (at t.buffers n.0).slot ≡ true → is_active (at t.buffers n.0).slot ≡ true → (start_split t s l).answer ≡ Ok (Held n)
 
 -- ResetTT from a lane
 pub record LaneReset : Type 0 where

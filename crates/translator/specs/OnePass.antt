@@ -1,7 +1,7 @@
 -- The search of a start-split in one pass (C-13): each buffer is taken at most once, in rising number, and what is carried on, numbers and
 -- flags, follows from what was carried so far, that buffer and the start-split alone. The code's pass is this one. A reader must believe
 -- that `look` sees no more than its arguments, and the claim `OnePass`.
-use Rattle.std.specs.Prelude.{ℕ, ◌+◌, ◌≡◌, ◌↔◌, Bool, true, false, cond, List, ◌++◌, length, take}
+use Rattle.std.specs.Prelude.{ℕ, ◌+◌, ◌≡◌, ◌↔◌, Bool, true, false, cond, List, ◌++◌, length, take, Ok}
 use Rattle.buffer.specs.declared.Key.{Key}
 use Rattle.buffer.specs.declared.StartSplit.{StartSplit}
 use Rattle.buffer.specs.declared.Slot.{Slot}
@@ -19,13 +19,12 @@ use Rattle.translator.specs.declared.Carried.{Carried}
 use Rattle.translator.specs.declared.Carried.TheVariants.{NoneYet, LowestFree, OwnOld, Repeat}
 use Rattle.translator.specs.declared.Choice.{Choice}
 use Rattle.translator.specs.declared.Choice.TheVariants.{NoRoom, LimitReached, Held, Reused, Took}
-use Rattle.translator.specs.declared.StartAnswer.TheVariants.{Chosen}
 use Rattle.translator.specs.Slots.{slots_in, bare}
 use Rattle.translator.specs.Order.{pass}
 use Rattle.bools.specs.Bit.{bit}
 use Rattle.translator.specs.Limit.{held_by, may_store, permitted}
 use Rattle.translator.specs.StartSplit.{start_split}
-use Rattle.translator.specs.TwoSteps.{Buffered, Lowest, None, TwoSteps}
+use Rattle.translator.specs.TwoSteps.{Buffered, Lowest, NoBuffer, TwoSteps}
 use Rattle.translator.specs.Valid.{ValidTranslator}
 
 -- ---- one buffer
@@ -94,9 +93,9 @@ choice_by f t k = choice_of t.count (carried_by f k (take t.count t.buffers))
 -- what is carried past the B buffers of the translator t, in words over them
 abbrev pub Carries : Translator → Key → Carried → Type 0
 -- none has the key, none is empty or old
-Carries t k (NoneYet h) = None (With k) t × (None Vacated t × (h ≡ held_by k.lane (take t.count t.buffers)))
+Carries t k (NoneYet h) = NoBuffer (With k) t × (NoBuffer Vacated t × (h ≡ held_by k.lane (take t.count t.buffers)))
 -- none has the key; n is the lowest-numbered empty or old one
-Carries t k (LowestFree n h) = None (With k) t × (Lowest Vacated t n × (h ≡ held_by k.lane (take t.count t.buffers)))
+Carries t k (LowestFree n h) = NoBuffer (With k) t × (Lowest Vacated t n × (h ≡ held_by k.lane (take t.count t.buffers)))
 -- n is the lowest-numbered one with the key, and old
 Carries t k (OwnOld n h) = Lowest (With k) t n × (Buffered (OldWith k) t n × (h ≡ held_by k.lane (take t.count t.buffers)))
 -- n is the lowest-numbered one with the key, and pending or ready
@@ -110,7 +109,7 @@ pub record OnePass (f : Looking) : Type 0 where
   -- (a buffer with the key is the lowest-numbered one with it in every valid translator: no key is held twice there)
   pub one_holder : (t : Translator) (k : Key) (n : BufferNumber) → ValidTranslator t → Buffered (With k) t n → Lowest (With k) t n
   -- it is what every start-split within the rules is answered
-  pub answered : (t : Translator) (s : StartSplit) (l : List ℕ) → start_fits s (length l) ≡ true → (start_split t s l).answer ≡ Chosen (choice_by f t (key_of s))
+  pub answered : (t : Translator) (s : StartSplit) (l : List ℕ) → start_fits s (length l) ≡ true → (start_split t s l).answer ≡ Ok (choice_by f t (key_of s))
   -- of the slots alone it is the same: the rule's choice of buffers without their payloads, which the C entries search
   pub of_slots : (t : Translator) (k : Key) → permitted t.count k (take t.count (bare (slots_in t.buffers))) ≡ choice_by f t k
   -- the rule's choice follows from what is carried and the buffers to come: the same carried, the same choice, whatever the buffers before were

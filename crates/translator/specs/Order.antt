@@ -1,14 +1,12 @@
 -- Internal, pinned by `LaunchOrder` (crate `runs`), which says which start-split a launch gives, and of any translator by `TranslatorClaims`
 -- (Claims.antt): the order of acceptance. A pending buffer has a place; a lower place was stored earlier. On storing, the pending buffers' places
 -- become their ranks, from 0 without gaps, and the new one gets the next, so that places never run out.
-use Rattle.std.specs.Prelude.{ℕ, suc, Bool, false, cond, List, [], ◌∷◌, map, ltb}
+use Rattle.std.specs.Prelude.{ℕ, suc, Bool, false, cond, List, [], ◌∷◌, map, ltb, Option, Some, None}
 use Rattle.buffer.specs.declared.Slot.{Slot}
 use Rattle.buffer.specs.declared.Slot.TheVariants.{Empty, Pending, Ready, Old}
 use Rattle.buffer.specs.declared.Buffer.{Buffer}
 use Rattle.buffer.specs.declared.BufferNumber.{BufferNumber}
 use Rattle.buffer.specs.Buffer.{is_pending}
-use Rattle.translator.specs.declared.Earliest.{Earliest}
-use Rattle.translator.specs.declared.Earliest.TheVariants.{NonePending, Stored}
 use Rattle.translator.specs.Translator.{tally}
 
 -- a pass over the buffers from number n on, with c carried so far: the left fold of f over their slots and numbers
@@ -46,13 +44,13 @@ unfoldable pub ranked : List Buffer → List Buffer
 ranked bs = map (ranked_in bs) bs
 
 -- the earlier of what was found so far and a buffer
-abbrev pub sooner : Earliest → Slot → BufferNumber → Earliest
+abbrev pub sooner : Option (BufferNumber × ℕ) → Slot → BufferNumber → Option (BufferNumber × ℕ)
 sooner e Empty n = e
-sooner NonePending (Pending s p) n = Stored n p
-sooner (Stored m q) (Pending s p) n = cond (ltb p q) (Stored n p) (Stored m q)
+sooner None (Pending s p) n = Some (n, p)
+sooner (Some (m, q)) (Pending s p) n = cond (ltb p q) (Some (n, p)) (Some (m, q))
 sooner e (Ready s r) n = e
 sooner e (Old s r) n = e
 
 -- the pending buffer with the lowest place
-unfoldable pub earliest : List Buffer → Earliest
-earliest bs = pass sooner 0 NonePending bs
+unfoldable pub earliest : List Buffer → Option (BufferNumber × ℕ)
+earliest bs = pass sooner 0 None bs

@@ -26,8 +26,8 @@ pub record Lowest (P : Slot → Type 0) (t : Translator) (n : BufferNumber) : Ty
   pub none_lower : (i : ℕ) → i < n.0 → ¬ (P (at t.buffers i).slot)
 
 -- none of them is so
-abbrev pub None : (Slot → Type 0) → Translator → Type 0
-None P t = (n : BufferNumber) → ¬ (Buffered P t n)
+abbrev pub NoBuffer : (Slot → Type 0) → Translator → Type 0
+NoBuffer P t = (n : BufferNumber) → ¬ (Buffered P t n)
 
 -- A start-split with the key k. Where a key is held twice, the lowest-numbered buffer with it is meant.
 abbrev pub TwoSteps : Translator → Key → Choice → Type 0
@@ -36,8 +36,8 @@ TwoSteps t k (Held n) = Lowest (With k) t n × Buffered (Holding k) t n
 -- one that is old, reuse it;
 TwoSteps t k (Reused n) = (¬ (AtLimit k.lane t)) × (Lowest (With k) t n × Buffered (OldWith k) t n)
 -- no key match, the lowest-numbered empty or old one;
-TwoSteps t k (Took n) = (¬ (AtLimit k.lane t)) × (None (With k) t × Lowest Vacated t n)
+TwoSteps t k (Took n) = (¬ (AtLimit k.lane t)) × (NoBuffer (With k) t × Lowest Vacated t n)
 -- none, 3.
-TwoSteps t k NoRoom = (¬ (AtLimit k.lane t)) × (None (With k) t × None Vacated t)
+TwoSteps t k NoRoom = (¬ (AtLimit k.lane t)) × (NoBuffer (With k) t × NoBuffer Vacated t)
 -- C-18: a start-split whose storing would pass the limit, in its own old buffer too, is 3; a repeat is still ACK
 TwoSteps t k LimitReached = AtLimit k.lane t × ((n : BufferNumber) → Lowest (With k) t n → ¬ (Buffered (Holding k) t n))

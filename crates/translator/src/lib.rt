@@ -11,7 +11,7 @@ ghost use Rattle.translator.specs.OnePass.{past, counted, look, is_settled, held
 ghost use Rattle.translator.specs.SearchMistakes.{SearchMistakesShutOut};
 ghost use Rattle.translator.specs.Order.{is_before, waiting, before, reranked, ranked_in, ranked, sooner, earliest};
 ghost use Rattle.translator.specs.StartSplit.{stored, start_by, start_split};
-ghost use Rattle.translator.specs.CompleteSplit.{given, completed, complete_split};
+ghost use Rattle.translator.specs.CompleteSplit.{given, unanswered, completed, complete_split};
 ghost use Rattle.translator.specs.Launch.{unlaunched, launched, launch};
 ghost use Rattle.translator.specs.Deliver.{undelivered, delivered, deliver};
 ghost use Rattle.translator.specs.Clear.{low_without, clear_buffer};
@@ -26,7 +26,7 @@ use buffer::{
 use payload::Payload;
 
 // The full- and low-speed side: one transaction at a time.
-#[derive(Clone, Copy)]
+#[derive(Clone, Copy, PartialEq, Eq)]
 pub enum LowSide {
     Idle,
     Running(BufferNumber),
@@ -42,15 +42,8 @@ pub struct Translator {
     pub low: LowSide,
 }
 
-// Where a search ended.
-#[derive(Clone, Copy)]
-pub enum Found {
-    Nowhere,
-    At(BufferNumber),
-}
-
 // What a start-split does with which buffer.
-#[derive(Clone, Copy)]
+#[derive(Clone, Copy, PartialEq, Eq)]
 pub enum Choice {
     NoRoom,
     // storing would pass the limit of its lane
@@ -62,7 +55,7 @@ pub enum Choice {
 
 // What the search of a start-split carries on from buffer to buffer (the accumulator of a fold): numbers and flags, no key and no payload.
 // Which of the four it is says what the buffer number names; the u8 is how many buffers so far the key's lane holds pending or ready.
-#[derive(Clone, Copy)]
+#[derive(Clone, Copy, PartialEq, Eq)]
 pub enum Carried {
     // none has the key, none is empty or old
     NoneYet(u8),
@@ -74,66 +67,56 @@ pub enum Carried {
     Repeat(BufferNumber),
 }
 
-// The pending buffer accepted first, with its place.
-#[derive(Clone, Copy)]
-pub enum Earliest {
-    NonePending,
-    Stored(BufferNumber, u8),
-}
-
-#[derive(Clone, Copy)]
-pub enum StartAnswer {
-    // a number or length outside the rules
-    Outside,
-    Chosen(Choice),
-}
+// A number or length of a start-split is outside the rules.
+#[derive(Clone, Copy, PartialEq, Eq)]
+pub struct Outside;
 
 #[derive(Clone, Copy)]
 pub struct Started {
     pub next: Translator,
-    pub answer: StartAnswer,
+    pub answer: Result<Choice, Outside>,
 }
 
-#[derive(Clone, Copy)]
-pub enum CompleteAnswer {
+// Why a complete-split gives no result.
+#[derive(Clone, Copy, PartialEq, Eq)]
+pub enum NoResult {
     NoMatch,
     NotYet,
-    Gives(DeviceResult),
 }
 
 #[derive(Clone, Copy)]
 pub struct Completed {
     pub next: Translator,
-    pub answer: CompleteAnswer,
+    pub answer: Result<DeviceResult, NoResult>,
     pub payload: Payload,
 }
 
-#[derive(Clone, Copy)]
-pub enum LaunchAnswer {
+// Why a launch gives no start-split.
+#[derive(Clone, Copy, PartialEq, Eq)]
+pub enum NotLaunched {
     NothingPending,
     Occupied,
-    Launches(StartSplit),
 }
 
 #[derive(Clone, Copy)]
 pub struct Launched {
     pub next: Translator,
-    pub answer: LaunchAnswer,
+    pub answer: Result<StartSplit, NotLaunched>,
     pub payload: Payload,
 }
 
-#[derive(Clone, Copy)]
-pub enum DeliverAnswer {
+// Why a delivery has no effect.
+#[derive(Clone, Copy, PartialEq, Eq)]
+pub enum NotDelivered {
     // a number or length outside the rules
     Outside,
     NotInThisState,
-    Done,
 }
 
 #[derive(Clone, Copy)]
 pub struct Delivered {
     pub next: Translator,
-    pub answer: DeliverAnswer,
+    pub answer: Result<(), NotDelivered>,
 }
 
 // ---- the search of a start-split
@@ -148,7 +131,7 @@ impl Carried {
             Carried::NoneYet(held) => Carried::NoneYet(held + 1),
             Carried::LowestFree(m, held) => Carried::LowestFree(m, held + 1),
             Carried::OwnOld(m, held) => Carried::OwnOld(m, held + 1),
-            Carried::Repeat(m) => Carried::Repeat(m),
+            Carried::Repeat(_) => self,
         }
     }
 
@@ -158,9 +141,7 @@ impl Carried {
     {
         match self {
             Carried::NoneYet(held) => Carried::LowestFree(n, held),
-            Carried::LowestFree(m, held) => Carried::LowestFree(m, held),
-            Carried::OwnOld(m, held) => Carried::OwnOld(m, held),
-            Carried::Repeat(m) => Carried::Repeat(m),
+            Carried::LowestFree(_, _) | Carried::OwnOld(_, _) | Carried::Repeat(_) => self,
         }
     }
 
@@ -170,10 +151,9 @@ impl Carried {
         ensures { result ≡ counted 1 (past self n Standing.Holds) }
     {
         match self {
-            Carried::NoneYet(_) => Carried::Repeat(n),
-            Carried::LowestFree(_, _) => Carried::Repeat(n),
+            Carried::NoneYet(_) | Carried::LowestFree(_, _) => Carried::Repeat(n),
             Carried::OwnOld(m, held) => Carried::OwnOld(m, held + 1),
-            Carried::Repeat(m) => Carried::Repeat(m),
+            Carried::Repeat(_) => self,
         }
     }
 
@@ -182,10 +162,8 @@ impl Carried {
         ensures { result ≡ past self n Standing.Reusable }
     {
         match self {
-            Carried::NoneYet(held) => Carried::OwnOld(n, held),
-            Carried::LowestFree(_, held) => Carried::OwnOld(n, held),
-            Carried::OwnOld(m, held) => Carried::OwnOld(m, held),
-            Carried::Repeat(m) => Carried::Repeat(m),
+            Carried::NoneYet(held) | Carried::LowestFree(_, held) => Carried::OwnOld(n, held),
+            Carried::OwnOld(_, _) | Carried::Repeat(_) => self,
         }
     }
 
@@ -193,41 +171,23 @@ impl Carried {
     fn is_settled(self) -> bool
         ensures { result ≡ is_settled self }
     {
-        match self {
-            Carried::NoneYet(_) => false,
-            Carried::LowestFree(_, _) => false,
-            Carried::OwnOld(_, _) => false,
-            Carried::Repeat(_) => true,
-        }
+        matches!(self, Carried::Repeat(_))
     }
 
     // The choice, read off at the end.
     fn choice(self, count: BufferCount) -> Choice
         ensures { result ≡ choice_of count.0 self }
     {
-        match self {
-            Carried::NoneYet(held) => {
-                if may_store(count, held) {
-                    Choice::NoRoom
-                } else {
-                    Choice::LimitReached
-                }
-            }
-            Carried::LowestFree(n, held) => {
-                if may_store(count, held) {
-                    Choice::Took(n)
-                } else {
-                    Choice::LimitReached
-                }
-            }
-            Carried::OwnOld(n, held) => {
-                if may_store(count, held) {
-                    Choice::Reused(n)
-                } else {
-                    Choice::LimitReached
-                }
-            }
-            Carried::Repeat(n) => Choice::Held(n),
+        let (held, wanted) = match self {
+            Carried::NoneYet(held) => (held, Choice::NoRoom),
+            Carried::LowestFree(n, held) => (held, Choice::Took(n)),
+            Carried::OwnOld(n, held) => (held, Choice::Reused(n)),
+            Carried::Repeat(n) => return Choice::Held(n),
+        };
+        if may_store(count, held) {
+            wanted
+        } else {
+            Choice::LimitReached
         }
     }
 }
@@ -237,10 +197,9 @@ fn look(carried: Carried, n: BufferNumber, slot: Slot, key: Key) -> Carried
     requires { held_so_far carried ≤ 3 }
     ensures { result ≡ look carried n slot key }
 {
-    let lane = key.lane;
     match slot.standing(key) {
         Standing::Busy => {
-            if slot.is_active_in(lane) {
+            if slot.is_active_in(key.lane) {
                 carried.counted()
             } else {
                 carried
@@ -252,23 +211,23 @@ fn look(carried: Carried, n: BufferNumber, slot: Slot, key: Key) -> Carried
     }
 }
 
+// The slots of the first `count` buffers.
+fn used(slots: &[Slot; 4], count: BufferCount) -> &[Slot]
+    ensures { result.now ≡ take count.0 slots.now }
+{
+    &slots[..(count.0 as usize).min(4)]
+}
+
 // One pass over the slots of the first `count` buffers, in rising number, up to where it is settled.
 fn one_pass(slots: [Slot; 4], count: BufferCount, key: Key) -> Carried
     ensures { result ≡ carried_by look key (take count.0 (bare slots)) }
 {
-    let used = count.0 as usize;
     let mut carried = Carried::NoneYet(0);
-    let mut n: usize = 0;
-    while n < 4 {
-        if used <= n {
-            return carried;
-        }
-        let slot = slots[n];
-        carried = look(carried, BufferNumber(n as u8), slot, key);
+    for (n, slot) in used(&slots, count).iter().enumerate() {
+        carried = look(carried, BufferNumber(n as u8), *slot, key);
         if carried.is_settled() {
             return carried;
         }
-        n += 1;
     }
     carried
 }
@@ -288,22 +247,15 @@ pub fn choose(slots: [Slot; 4], count: BufferCount, key: Key) -> Choice
 }
 
 // The buffer that holds a key.
-pub fn holder(slots: [Slot; 4], count: BufferCount, key: Key) -> Found
+pub fn holder(slots: [Slot; 4], count: BufferCount, key: Key) -> Option<BufferNumber>
     ensures { result ≡ find (holds key) (take count.0 (bare slots)) }
 {
-    let used = count.0 as usize;
-    let mut i: usize = 0;
-    while i < 4 {
-        if used <= i {
-            return Found::Nowhere;
-        }
-        let slot = slots[i];
+    for (n, slot) in used(&slots, count).iter().enumerate() {
         if slot.holds(key) {
-            return Found::At(BufferNumber(i as u8));
+            return Some(BufferNumber(n as u8));
         }
-        i += 1;
     }
-    Found::Nowhere
+    None
 }
 
 // ---- the order of acceptance
@@ -311,23 +263,13 @@ pub fn holder(slots: [Slot; 4], count: BufferCount, key: Key) -> Found
 fn is_waiting(slot: Slot) -> bool
     ensures { result ≡ is_pending slot }
 {
-    match slot {
-        Slot::Empty => false,
-        Slot::Pending(_, _) => true,
-        Slot::Ready(_, _) => false,
-        Slot::Old(_, _) => false,
-    }
+    matches!(slot, Slot::Pending(_, _))
 }
 
 fn is_before(slot: Slot, place: u8) -> bool
     ensures { result ≡ is_before place slot }
 {
-    match slot {
-        Slot::Empty => false,
-        Slot::Pending(_, other) => other < place,
-        Slot::Ready(_, _) => false,
-        Slot::Old(_, _) => false,
-    }
+    matches!(slot, Slot::Pending(_, other) if other < place)
 }
 
 pub fn count_waiting(slots: [Slot; 4]) -> u8
@@ -357,10 +299,8 @@ fn rerank_slot(slots: [Slot; 4], slot: Slot) -> Slot
     ensures { result ≡ reranked (bare slots) slot }
 {
     match slot {
-        Slot::Empty => slot,
         Slot::Pending(split, place) => Slot::Pending(split, rank_of(slots, place)),
-        Slot::Ready(_, _) => slot,
-        Slot::Old(_, _) => slot,
+        Slot::Empty | Slot::Ready(_, _) | Slot::Old(_, _) => slot,
     }
 }
 
@@ -368,10 +308,10 @@ fn rerank_slot(slots: [Slot; 4], slot: Slot) -> Slot
 fn rerank(slots: [Slot; 4], b: Buffer) -> Buffer
     ensures { result ≡ ranked_in (bare slots) b }
 {
-    let slot = b.slot;
-    let mut next = b;
-    next.slot = rerank_slot(slots, slot);
-    next
+    Buffer {
+        slot: rerank_slot(slots, b.slot),
+        ..b
+    }
 }
 
 fn renumber(bs: [Buffer; 4], slots: [Slot; 4]) -> [Buffer; 4]
@@ -385,40 +325,34 @@ fn renumber(bs: [Buffer; 4], slots: [Slot; 4]) -> [Buffer; 4]
     [b0, b1, b2, b3]
 }
 
-fn nearer(sofar: Earliest, slot: Slot, n: BufferNumber) -> Earliest
+// The earlier of what was found so far and a buffer.
+fn nearer(
+    sofar: Option<(BufferNumber, u8)>,
+    slot: Slot,
+    n: BufferNumber,
+) -> Option<(BufferNumber, u8)>
     ensures { result ≡ sooner sofar slot n }
 {
-    match slot {
-        Slot::Empty => sofar,
-        Slot::Pending(_, place) => match sofar {
-            Earliest::NonePending => Earliest::Stored(n, place),
-            Earliest::Stored(m, other) => {
-                if place < other {
-                    Earliest::Stored(n, place)
-                } else {
-                    Earliest::Stored(m, other)
-                }
+    match (slot, sofar) {
+        (Slot::Pending(_, place), None) => Some((n, place)),
+        (Slot::Pending(_, place), Some((_, other))) => {
+            if place < other {
+                Some((n, place))
+            } else {
+                sofar
             }
-        },
-        Slot::Ready(_, _) => sofar,
-        Slot::Old(_, _) => sofar,
+        }
+        (Slot::Empty | Slot::Ready(_, _) | Slot::Old(_, _), _) => sofar,
     }
 }
 
-// The pending buffer with the lowest place, of the first `count`.
-pub fn earliest_of(slots: [Slot; 4], count: BufferCount) -> Earliest
+// The pending buffer with the lowest place, of the first `count`, and that place.
+pub fn earliest_of(slots: [Slot; 4], count: BufferCount) -> Option<(BufferNumber, u8)>
     ensures { result ≡ earliest (take count.0 (bare slots)) }
 {
-    let used = count.0 as usize;
-    let mut sofar = Earliest::NonePending;
-    let mut i: usize = 0;
-    while i < 4 {
-        if used <= i {
-            return sofar;
-        }
-        let slot = slots[i];
-        sofar = nearer(sofar, slot, BufferNumber(i as u8));
-        i += 1;
+    let mut sofar = None;
+    for (n, slot) in used(&slots, count).iter().enumerate() {
+        sofar = nearer(sofar, *slot, BufferNumber(n as u8));
     }
     sofar
 }
@@ -435,16 +369,7 @@ impl Translator {
     pub fn slots(self) -> [Slot; 4]
         ensures { result ≡ slots_in self.buffers }
     {
-        let buffers = self.buffers;
-        let a = buffers[0];
-        let b = buffers[1];
-        let c = buffers[2];
-        let d = buffers[3];
-        let w = a.slot;
-        let x = b.slot;
-        let y = c.slot;
-        let z = d.slot;
-        [w, x, y, z]
+        self.buffers.map(|b| b.slot)
     }
 
     fn choose(self, key: Key) -> Choice
@@ -453,13 +378,13 @@ impl Translator {
         choose(self.slots(), self.buffer_count(), key)
     }
 
-    fn holder(self, key: Key) -> Found
+    fn holder(self, key: Key) -> Option<BufferNumber>
         ensures { result ≡ find (holds key) (take self.count self.buffers) }
     {
         holder(self.slots(), self.buffer_count(), key)
     }
 
-    fn earliest(self) -> Earliest
+    fn earliest(self) -> Option<(BufferNumber, u8)>
         ensures { result ≡ earliest (take self.count self.buffers) }
     {
         earliest_of(self.slots(), self.buffer_count())
@@ -505,7 +430,6 @@ impl Translator {
         let i = n.0 as usize;
         if i < 4 {
             next.buffers[i] = b;
-            return next;
         }
         next
     }
@@ -513,12 +437,7 @@ impl Translator {
     fn with_low(self, low: LowSide) -> Translator
         ensures { result ≡ with_low self low }
     {
-        let buffers = self.buffers;
-        Translator {
-            buffers,
-            count: self.count,
-            low,
-        }
+        Translator { low, ..self }
     }
 }
 
@@ -529,20 +448,14 @@ impl Translator {
     fn store(self, n: BufferNumber, split: StartSplit, payload: &[u8]) -> Translator
         ensures { result ≡ stored self n split payload.now }
     {
-        let old = self.buffers;
-        let low = self.low;
         let slots = self.slots();
         let place = count_waiting(slots);
         let b = Buffer {
             slot: Slot::Pending(split, place),
             payload: Payload::of(payload),
         };
-        let buffers = renumber(old, slots);
-        let ranks = Translator {
-            buffers,
-            count: self.count,
-            low,
-        };
+        let buffers = renumber(self.buffers, slots);
+        let ranks = Translator { buffers, ..self };
         ranks.with_buffer(n, b)
     }
 
@@ -551,11 +464,8 @@ impl Translator {
         ensures { result ≡ (start_by self split payload.now choice).next }
     {
         match choice {
-            Choice::NoRoom => self,
-            Choice::LimitReached => self,
-            Choice::Held(_) => self,
-            Choice::Reused(n) => self.store(n, split, payload),
-            Choice::Took(n) => self.store(n, split, payload),
+            Choice::NoRoom | Choice::LimitReached | Choice::Held(_) => self,
+            Choice::Reused(n) | Choice::Took(n) => self.store(n, split, payload),
         }
     }
 
@@ -569,12 +479,12 @@ impl Translator {
             let choice = self.choose(split.key());
             Started {
                 next: self.started(choice, split, payload),
-                answer: StartAnswer::Chosen(choice),
+                answer: Ok(choice),
             }
         } else {
             Started {
                 next: self,
-                answer: StartAnswer::Outside,
+                answer: Err(Outside),
             }
         }
     }
@@ -583,20 +493,10 @@ impl Translator {
     fn complete_at(self, n: BufferNumber) -> Completed
         ensures { result ≡ completed self n (at self.buffers n.0).payload (at self.buffers n.0).slot }
     {
-        let b = self.buffer(n);
-        let slot = b.slot;
-        let payload = b.payload;
+        let Buffer { slot, payload } = self.buffer(n);
         match slot {
-            Slot::Empty => Completed {
-                next: self,
-                answer: CompleteAnswer::NoMatch,
-                payload: Payload::none(),
-            },
-            Slot::Pending(_, _) => Completed {
-                next: self,
-                answer: CompleteAnswer::NotYet,
-                payload: Payload::none(),
-            },
+            Slot::Empty => no_result(self, NoResult::NoMatch),
+            Slot::Pending(_, _) => no_result(self, NoResult::NotYet),
             Slot::Ready(split, result) => Completed {
                 next: self.with_buffer(
                     n,
@@ -605,12 +505,12 @@ impl Translator {
                         payload,
                     },
                 ),
-                answer: CompleteAnswer::Gives(result),
+                answer: Ok(result),
                 payload: give(result, payload),
             },
             Slot::Old(_, result) => Completed {
                 next: self,
-                answer: CompleteAnswer::Gives(result),
+                answer: Ok(result),
                 payload: give(result, payload),
             },
         }
@@ -621,30 +521,24 @@ impl Translator {
         ensures { result ≡ complete_split self key }
     {
         match self.holder(key) {
-            Found::Nowhere => Completed {
-                next: self,
-                answer: CompleteAnswer::NoMatch,
-                payload: Payload::none(),
-            },
-            Found::At(n) => self.complete_at(n),
+            None => no_result(self, NoResult::NoMatch),
+            Some(n) => self.complete_at(n),
         }
     }
 
     fn launch_at(self, n: BufferNumber) -> Launched
         ensures { result ≡ launched self n (at self.buffers n.0).payload (at self.buffers n.0).slot }
     {
-        let b = self.buffer(n);
-        let slot = b.slot;
-        let payload = b.payload;
+        let Buffer { slot, payload } = self.buffer(n);
         match slot {
-            Slot::Empty => no_launch(self, LaunchAnswer::NothingPending),
             Slot::Pending(split, _) => Launched {
                 next: self.with_low(LowSide::Running(n)),
-                answer: LaunchAnswer::Launches(split),
+                answer: Ok(split),
                 payload,
             },
-            Slot::Ready(_, _) => no_launch(self, LaunchAnswer::NothingPending),
-            Slot::Old(_, _) => no_launch(self, LaunchAnswer::NothingPending),
+            Slot::Empty | Slot::Ready(_, _) | Slot::Old(_, _) => {
+                no_launch(self, NotLaunched::NothingPending)
+            }
         }
     }
 
@@ -652,42 +546,36 @@ impl Translator {
     pub fn launch(self) -> Launched
         ensures { result ≡ launch self }
     {
-        let low = self.low;
-        match low {
+        match self.low {
             LowSide::Idle => match self.earliest() {
-                Earliest::NonePending => no_launch(self, LaunchAnswer::NothingPending),
-                Earliest::Stored(n, _) => self.launch_at(n),
+                None => no_launch(self, NotLaunched::NothingPending),
+                Some((n, _)) => self.launch_at(n),
             },
-            LowSide::Running(_) => no_launch(self, LaunchAnswer::Occupied),
-            LowSide::Abandoned => no_launch(self, LaunchAnswer::Occupied),
+            LowSide::Running(_) | LowSide::Abandoned => no_launch(self, NotLaunched::Occupied),
         }
     }
 
     fn deliver_to(self, n: BufferNumber, res: DeviceResult, payload: &[u8]) -> Delivered
         ensures { result ≡ delivered self res payload.now n (at self.buffers n.0).slot }
     {
-        let b = self.buffer(n);
-        let slot = b.slot;
-        match slot {
-            Slot::Empty => not_delivered(self),
+        match self.buffer(n).slot {
             Slot::Pending(split, _) => {
-                let pid = split.pid;
-                if res.suits(pid) {
+                if res.suits(split.pid) {
                     let ready = Buffer {
                         slot: Slot::Ready(split, res),
                         payload: Payload::of(payload),
                     };
-                    let next = self.with_buffer(n, ready);
                     Delivered {
-                        next: next.with_low(LowSide::Idle),
-                        answer: DeliverAnswer::Done,
+                        next: self.with_buffer(n, ready).with_low(LowSide::Idle),
+                        answer: Ok(()),
                     }
                 } else {
-                    not_delivered(self)
+                    not_delivered(self, NotDelivered::NotInThisState)
                 }
             }
-            Slot::Ready(_, _) => not_delivered(self),
-            Slot::Old(_, _) => not_delivered(self),
+            Slot::Empty | Slot::Ready(_, _) | Slot::Old(_, _) => {
+                not_delivered(self, NotDelivered::NotInThisState)
+            }
         }
     }
 
@@ -695,21 +583,16 @@ impl Translator {
     pub fn deliver(self, res: DeviceResult, payload: &[u8]) -> Delivered
         ensures { result ≡ deliver self res payload.now }
     {
-        let low = self.low;
-        if res.carries(payload.len()) {
-            match low {
-                LowSide::Idle => not_delivered(self),
-                LowSide::Running(n) => self.deliver_to(n, res, payload),
-                LowSide::Abandoned => Delivered {
-                    next: self.with_low(LowSide::Idle),
-                    answer: DeliverAnswer::Done,
-                },
-            }
-        } else {
-            Delivered {
-                next: self,
-                answer: DeliverAnswer::Outside,
-            }
+        if !res.carries(payload.len()) {
+            return not_delivered(self, NotDelivered::Outside);
+        }
+        match self.low {
+            LowSide::Idle => not_delivered(self, NotDelivered::NotInThisState),
+            LowSide::Running(n) => self.deliver_to(n, res, payload),
+            LowSide::Abandoned => Delivered {
+                next: self.with_low(LowSide::Idle),
+                answer: Ok(()),
+            },
         }
     }
 
@@ -718,13 +601,11 @@ impl Translator {
     pub fn clear_buffer(self, key: Key) -> Translator
         ensures { result ≡ clear_buffer self key }
     {
-        let low = self.low;
         match self.holder(key) {
-            Found::Nowhere => self,
-            Found::At(n) => {
-                let next = self.with_buffer(n, Buffer::vacant());
-                next.with_low(low.without(n))
-            }
+            None => self,
+            Some(n) => self
+                .with_buffer(n, Buffer::vacant())
+                .with_low(self.low.without(n)),
         }
     }
 }
@@ -735,34 +616,30 @@ impl Translator {
         ensures { result ≡ reset_lane self lane }
     {
         let old = self.buffers;
-        let low = self.low;
         let b0 = without_lane(old[0], lane);
         let b1 = without_lane(old[1], lane);
         let b2 = without_lane(old[2], lane);
         let b3 = without_lane(old[3], lane);
-        let next = self.low_without_lane(lane, low);
         Translator {
             buffers: [b0, b1, b2, b3],
-            count: self.count,
-            low: next,
+            low: self.low_without_lane(lane),
+            ..self
         }
     }
 
     // The low side once the lane's buffers are emptied.
-    fn low_without_lane(self, lane: Lane, low: LowSide) -> LowSide
-        ensures { result ≡ low_without_lane lane self.buffers low }
+    fn low_without_lane(self, lane: Lane) -> LowSide
+        ensures { result ≡ low_without_lane lane self.buffers self.low }
     {
-        match low {
-            LowSide::Idle => LowSide::Idle,
+        match self.low {
             LowSide::Running(n) => {
-                let b = self.buffer(n);
-                let running = b.slot;
-                if running.is_in(lane) {
-                    return LowSide::Abandoned;
+                if self.buffer(n).slot.is_in(lane) {
+                    LowSide::Abandoned
+                } else {
+                    LowSide::Running(n)
                 }
-                LowSide::Running(n)
             }
-            LowSide::Abandoned => LowSide::Abandoned,
+            LowSide::Idle | LowSide::Abandoned => self.low,
         }
     }
 }
@@ -772,11 +649,11 @@ impl Translator {
 fn without_lane(b: Buffer, lane: Lane) -> Buffer
     ensures { result ≡ without_lane lane b }
 {
-    let slot = b.slot;
-    if slot.is_in(lane) {
-        return Buffer::vacant();
+    if b.slot.is_in(lane) {
+        Buffer::vacant()
+    } else {
+        b
     }
-    b
 }
 
 // What comes with a result: data its payload, a handshake none.
@@ -790,22 +667,32 @@ pub fn give(res: DeviceResult, payload: Payload) -> Payload
     }
 }
 
-fn no_launch(t: Translator, answer: LaunchAnswer) -> Launched
-    ensures { result ≡ unlaunched t answer }
+fn no_result(t: Translator, why: NoResult) -> Completed
+    ensures { result ≡ unanswered t why }
 {
-    Launched {
+    Completed {
         next: t,
-        answer,
+        answer: Err(why),
         payload: Payload::none(),
     }
 }
 
-fn not_delivered(t: Translator) -> Delivered
-    ensures { result ≡ undelivered t DeliverAnswer.NotInThisState }
+fn no_launch(t: Translator, why: NotLaunched) -> Launched
+    ensures { result ≡ unlaunched t why }
+{
+    Launched {
+        next: t,
+        answer: Err(why),
+        payload: Payload::none(),
+    }
+}
+
+fn not_delivered(t: Translator, why: NotDelivered) -> Delivered
+    ensures { result ≡ undelivered t why }
 {
     Delivered {
         next: t,
-        answer: DeliverAnswer::NotInThisState,
+        answer: Err(why),
     }
 }
 
@@ -815,15 +702,8 @@ impl LowSide {
         ensures { result ≡ low_without n self }
     {
         match self {
-            LowSide::Idle => LowSide::Idle,
-            LowSide::Running(m) => {
-                if m.0 == n.0 {
-                    LowSide::Abandoned
-                } else {
-                    LowSide::Running(m)
-                }
-            }
-            LowSide::Abandoned => LowSide::Abandoned,
+            LowSide::Running(m) if m == n => LowSide::Abandoned,
+            LowSide::Idle | LowSide::Running(_) | LowSide::Abandoned => self,
         }
     }
 }

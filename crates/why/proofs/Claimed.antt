@@ -3,16 +3,16 @@ use Prim.Native.Nat.{ℕ}
 use native.Mathlib.Omega.{arith}
 use mathlib.Core.Path.{◌≡◌, refl, sym, ◌∙◌, ap, subst}
 use mathlib.Core.Logic.{◌↔◌}
-use mathlib.Core.Option.{none, some}
+use Rattle.std.specs.Prelude.{None, Some, Result}
 use mathlib.Core.List.{List, [], ◌∷◌}
 use mathlib.Core.Bool.{Bool, true, false, cond, true≢false}
 use borrow.Author.Tests.{eqb-false, ne_eqb}
 use lib.Dec.{eqb}
 use Rattle.buffer.specs.declared.Lane.{Lane}
 use Rattle.buffer.specs.Key.{key_of}
+use Rattle.translator.specs.declared.Outside.{Outside}
 use Rattle.translator.specs.declared.Choice.{Choice}
 use Rattle.translator.specs.declared.Choice.TheVariants as choice
-use Rattle.translator.specs.declared.StartAnswer.{StartAnswer}
 use Rattle.translator.specs.Answers.{start_number}
 use Rattle.numbers.specs.Named.{lane_from}
 use Rattle.numbers.specs.Split.{split_from}
@@ -60,15 +60,15 @@ inside h c p = is_true (within h c) (λ e. p outside (omega arith) ((outside_tel
 wide : (h : Hub) (c : Call) → Passes h c → has_space c ≡ true
 wide h c p = is_true (has_space c) (λ e. p short (omega arith) ((short_tells c).0 e))
 
-none_for : (r : Reason) (a : Answer) → NoReason r → enough_for r ≡ some a → ⊥
-none_for r a s e = let q : none ≡ some a = ap enough_for (sym (no_reason_lem r s)) ∙ e in let z : ◌≡◌ {A = ℕ} 0 1 = cc in omega arith
+none_for : (r : Reason) (a : Answer) → NoReason r → enough_for r ≡ Some a → ⊥
+none_for r a s e = let q : None ≡ Some a = ap enough_for (sym (no_reason_lem r s)) ∙ e in let z : ◌≡◌ {A = ℕ} 0 1 = cc in omega arith
 
 passed : (h : Hub) (c : Call) → within h c ≡ true → has_space c ≡ true → not_silent h c ≡ true → fitting h c ≡ true → step h c ≡ served h c
 unfolding step
 passed h c w r s f = rw (w, r, s, f)
 
 module _ (h : Hub) (a : Answer) where
-  request_enough : (y : Lane) (s : List ℕ) (r : Reason) → SaidOfRequest r h s → enough_for r ≡ some a → (requested h y (request_of h.identity.ports s)).answer ≡ a
+  request_enough : (y : Lane) (s : List ℕ) (r : Reason) → SaidOfRequest r h s → enough_for r ≡ Some a → (requested h y (request_of h.identity.ports s)).answer ≡ a
   request_enough y s (Wrong x) w e = let q : plain_answer 2 ≡ a = cc in ap (λ (o : Outcome). o.answer) (wrong_enough h s y x w) ∙ q
   request_enough y s Nothing w e = absurd (none_for Nothing a tt e)
   request_enough y s (Number n) w e = absurd w
@@ -79,7 +79,7 @@ module _ (h : Hub) (a : Answer) where
   request_enough y s LimitReached w e = absurd w
   request_enough y s (Changed f) w e = absurd w
 
-  changes_enough : (r : Reason) → SaidOfPoll r h → enough_for r ≡ some a → (polled h).answer ≡ a
+  changes_enough : (r : Reason) → SaidOfPoll r h → enough_for r ≡ Some a → (polled h).answer ≡ a
   changes_enough (Changed f) w e = let q : pid_answer 1 0 (bitmap_by f ∷ []) ≡ a = cc in ap (λ (o : Outcome). o.answer) (poll_enough h f w) ∙ q
   changes_enough Nothing w e = absurd (none_for Nothing a tt e)
   changes_enough (Number n) w e = absurd w
@@ -90,7 +90,7 @@ module _ (h : Hub) (a : Answer) where
   changes_enough LimitReached w e = absurd w
   changes_enough (Wrong x) w e = absurd w
 
-  enough : (r : Reason) (c : Call) → KeysApart h → enough_for r ≡ some a → Passes h c → Said r h c → (step h c).answer ≡ a
+  enough : (r : Reason) (c : Call) → KeysApart h → enough_for r ≡ Some a → Passes h c → Said r h c → (step h c).answer ≡ a
   unfolding has_space not_silent fitting served
   enough r (Control v s room) apart e p w =
       let x = inside h (Control v s room) p in
@@ -106,7 +106,7 @@ module _ (h : Hub) (a : Answer) where
       let z = is_true h.configured (p silent (omega arith)) in
       let k = key_of (split_from v q t f g b n) in
       ap (λ (o : Outcome). o.answer) (passed h (Start v q t f g b n l) x refl z refl)
-      ∙ ap (λ (s : StartAnswer). plain_answer (start_number s)) (start_chosen h v q t f g b n l x)
+      ∙ ap (λ (s : Result Choice Outside). plain_answer (start_number s)) (start_chosen h v q t f g b n l x)
       ∙ picked_enough h k (apart k) r a w e
   enough r (Complete v x y d room) apart e p w = absurd (none_for r a w e)
   enough r (Launch room) apart e p w = absurd (none_for r a w e)

@@ -1,7 +1,7 @@
 -- A start-split: the reason that the search gives is true, no other is, and it is enough. Assumes nothing.
 use Prim.Native.Nat.{ℕ}
 use mathlib.Core.Path.{◌≡◌, sym, ◌∙◌, ap}
-use mathlib.Core.Option.{some}
+use Rattle.std.specs.Prelude.{Some, Ok}
 use mathlib.Core.Bool.{true, and-eq-true_iff}
 use mathlib.Core.List.{List}
 use lib.ListN.{length, take}
@@ -15,7 +15,6 @@ use Rattle.buffer.specs.Words.{With}
 use Rattle.buffer.proofs.Words.{holding_with, old_with, elsewhere, elsewhere_without, elsewhere_taken}
 use Rattle.translator.specs.declared.Choice.{Choice}
 use Rattle.translator.specs.declared.Choice.TheVariants as choice
-use Rattle.translator.specs.declared.StartAnswer.TheVariants.{Chosen}
 use Rattle.translator.specs.declared.Translator.{Translator}
 use Rattle.translator.specs.Limit.{permitted}
 use Rattle.translator.specs.TwoSteps.{InUse, Lowest, TwoSteps}
@@ -95,10 +94,10 @@ module _ (h : Hub) (k : Key) (apart : Apart (holds k) h.translator.buffers) wher
   picked_only (Changed f) s = absurd s
   picked_only (Wrong x) s = absurd s
 
-  pub picked_enough : (r : Reason) (a : Answer) → SaidOfStart r h k → enough_for r ≡ some a → plain_answer (choice_number (picked h k)) ≡ a
+  pub picked_enough : (r : Reason) (a : Answer) → SaidOfStart r h k → enough_for r ≡ Some a → plain_answer (choice_number (picked h k)) ≡ a
   picked_enough r a s e = go (picked h k) (ap enough_for (sym (picked_only r s)) ∙ e)
     where
-      go : (c : Choice) → enough_for (choice_reason c) ≡ some a → plain_answer (choice_number c) ≡ a
+      go : (c : Choice) → enough_for (choice_reason c) ≡ Some a → plain_answer (choice_number c) ≡ a
       go choice.NoRoom f = cc
       go choice.LimitReached f = cc
       go (choice.Held n) f = cc
@@ -108,7 +107,7 @@ module _ (h : Hub) (k : Key) (apart : Apart (holds k) h.translator.buffers) wher
 -- ---- a start-split that passes is answered by what was chosen
 
 pub start_chosen : (h : Hub) (z p t f g a e : ℕ) (l : List ℕ) → within h (Start z p t f g a e l) ≡ true
-    → (start_split h.translator (split_from z p t f g a e) l).answer ≡ Chosen (picked h (key_of (split_from z p t f g a e)))
+    → (start_split h.translator (split_from z p t f g a e) l).answer ≡ Ok (picked h (key_of (split_from z p t f g a e)))
 unfolding within
 start_chosen h z p t f g a e l w =
     let s : StartSplit = split_from z p t f g a e in

@@ -13,11 +13,11 @@ use Rattle.buffer.specs.declared.BufferNumber.{BufferNumber}
 use Rattle.buffer.specs.declared.StartSplit.{StartSplit}
 use Rattle.buffer.specs.Key.{key_of}
 use Rattle.buffer.specs.Lengths.{start_fits}
+use Rattle.std.specs.Prelude.{Ok, Result}
+use Rattle.translator.specs.declared.Outside.{Outside}
 use Rattle.translator.specs.declared.Translator.{Translator}
 use Rattle.translator.specs.declared.Choice.{Choice}
 use Rattle.translator.specs.declared.Choice.TheVariants as choice
-use Rattle.translator.specs.declared.StartAnswer.{StartAnswer}
-use Rattle.translator.specs.declared.StartAnswer.TheVariants.{Chosen}
 use Rattle.translator.specs.Translator.{at}
 use Rattle.translator.specs.Order.{waiting, reranked, ranked_in, ranked}
 use Rattle.translator.specs.StartSplit.{stored, start_split}
@@ -71,7 +71,7 @@ module _ (h : Hub) (s : StartSplit) (l : List ℕ) (short : length l ≤ 64) whe
       other : (i : ℕ) → ¬ (i ≡ n.0) → at (set (ranked bs) n.0 new) i ≡ ranked_in bs (at bs i)
       other i ne = at_other (ranked bs) n.0 new there i ne ∙ at-ranked bs i
 
-  leaves : (c : Choice) (u : Translator) → StartedAs h.translator s l (Chosen c) u → Leaves (choice_reason c) s l h (with_translator h u)
+  leaves : (c : Choice) (u : Translator) → StartedAs h.translator s l (Ok c) u → Leaves (choice_reason c) s l h (with_translator h u)
   leaves choice.NoRoom u x = ap (with_translator h) x
   leaves choice.LimitReached u x = ap (with_translator h) x
   leaves (choice.Held n) u x = ap (with_translator h) x
@@ -94,6 +94,6 @@ why_stored h z p t f g a e l valid = go (is_number (step h c).answer.number) ref
         let b = by_rule h c q in
         let short = start_le s (length l) ((and-eq-true_iff (split_named z p t f g a e) (start_fits s (length l))).0 b.fits).1 in
         let o = start_split h.translator s l in
-        let k : o.answer ≡ Chosen (picked h (key_of s)) = start_chosen h z p t f g a e l b.fits in
-        let x = subst (λ (v : StartAnswer). StartedAs h.translator s l v o.next) k (started_as_lem h.translator s l) in
+        let k : o.answer ≡ Ok (picked h (key_of s)) = start_chosen h z p t f g a e l b.fits in
+        let x = subst (λ (v : Result Choice Outside). StartedAs h.translator s l v o.next) k (started_as_lem h.translator s l) in
         rw (b.rule, k) (leaves h s l short (picked h (key_of s)) o.next x)

@@ -1,5 +1,5 @@
 -- Tools and rules with one mistake. A reader must believe: each is a mistake, and the claim named shuts it out.
-use Rattle.std.specs.Prelude.{ℕ, ◌+◌, Bool, true, false, cond, List, [], ◌∷◌, map, take, get_or}
+use Rattle.std.specs.Prelude.{ℕ, ◌+◌, Bool, true, false, cond, List, [], ◌∷◌, map, take, get_or, None, Some}
 use Rattle.payload.specs.Payload.{no_payload}
 use Rattle.buffer.specs.declared.Key.{Key}
 use Rattle.buffer.specs.declared.Buffer.{Buffer}
@@ -8,7 +8,6 @@ use Rattle.buffer.specs.declared.Slot.{Slot}
 use Rattle.buffer.specs.declared.Slot.TheVariants.{Empty, Pending, Ready, Old}
 use Rattle.buffer.specs.Key.{key_of}
 use Rattle.buffer.specs.Buffer.{is_free}
-use Rattle.translator.specs.declared.Found.TheVariants.{Nowhere, At}
 use Rattle.translator.specs.declared.Choice.{Choice}
 use Rattle.translator.specs.declared.Choice.TheVariants as choice
 use Rattle.translator.specs.Order.{pass}
@@ -127,7 +126,7 @@ from_top bs choice.NoRoom = choice.NoRoom
 from_top bs choice.LimitReached = choice.LimitReached
 from_top bs (choice.Held n) = choice.Held n
 from_top bs (choice.Reused n) = choice.Reused n
-from_top bs (choice.Took n) = choose_free (pass (λ f s m. cond (is_free s) (At m) f) 0 Nowhere bs)
+from_top bs (choice.Took n) = choose_free (pass (λ f s m. cond (is_free s) (Some m) f) 0 None bs)
 
 abbrev pub highest_free : ℕ → Key → List Buffer → Choice
 highest_free b k bs = from_top bs (permitted b k bs)

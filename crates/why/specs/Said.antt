@@ -1,7 +1,6 @@
 -- When a reason is true of a hub and a call. A reader must believe: these are the words of document 02, C-15 and C-18, over document 01's
 -- state and table; what is wrong with a request is wrong by the table, and the order of things is `place`.
-use Rattle.std.specs.Prelude.{ℕ, ◌<◌, ◌≤◌, ◌≡◌, ◌↔◌, Bool, true, false, ◌&&◌, ◌||◌, List, [], ◌∷◌, map, eqb, leb, get_or}
-use Rattle.std.proofs.Math.Option.{Option, none, some}
+use Rattle.std.specs.Prelude.{ℕ, ◌<◌, ◌≤◌, ◌≡◌, ◌↔◌, Bool, true, false, ◌&&◌, ◌||◌, List, [], ◌∷◌, map, eqb, leb, get_or, Option, None, Some, is_some}
 use Rattle.port.specs.declared.Changes.{Changes}
 use Rattle.port.specs.declared.ChangeBit.{ChangeBit}
 use Rattle.port.specs.Reaction.{no_changes}
@@ -17,7 +16,7 @@ use Rattle.numbers.specs.Split.{split_from}
 use Rattle.request.specs.declared.Kind.{Kind}
 use Rattle.request.specs.declared.Kind.TheVariants as kind
 use Rattle.request.specs.Setup.{setup_of}
-use Rattle.request.specs.Table.{kind_of, is_known, value_fits, index_fits, length_fits}
+use Rattle.request.specs.Table.{kind_of, value_fits, index_fits, length_fits}
 use Rattle.hub.specs.declared.Hub.{Hub}
 use Rattle.hub.specs.Call.{Call, Control, Poll, Start, Complete, Launch, Deliver, Event, Tick, BusReset, Answer, plain_answer, pid_answer}
 use Rattle.hub.specs.Valid.{port_indexed}
@@ -103,7 +102,6 @@ SaidOfPoll (Wrong w) h = ⊥
 
 -- Unconfigured, only the first three are served.
 abbrev pub served_unconfigured : Kind → Bool
-served_unconfigured kind.Unknown = false
 served_unconfigured kind.SetConfiguration = true
 served_unconfigured kind.GetConfiguration = true
 served_unconfigured kind.GetHubDescriptor = true
@@ -115,16 +113,21 @@ served_unconfigured kind.SetPortFeature = false
 served_unconfigured kind.ClearTTBuffer = false
 served_unconfigured kind.ResetTT = false
 
-abbrev pub kind_in : List ℕ → Kind
+abbrev pub kind_in : List ℕ → Option Kind
 kind_in s = kind_of (setup_of s).requesttype (setup_of s).code
+
+-- a test of the row that type and code name; it fails where they name none
+abbrev pub of_kind : (Kind → Bool) → Option Kind → Bool
+of_kind f None = false
+of_kind f (Some k) = f k
 
 -- whether this thing is right in setup bytes s
 abbrev pub right : RequestFault → Hub → List ℕ → Bool
-right wrong.TypeOrCode h s = is_known (kind_in s)
-right wrong.Unconfigured h s = h.configured || served_unconfigured (kind_in s)
-right wrong.Value h s = value_fits (kind_in s) (setup_of s).value
-right wrong.Index h s = index_fits h.identity.ports (kind_in s) (setup_of s).index
-right wrong.Length h s = length_fits (kind_in s) (setup_of s).length
+right wrong.TypeOrCode h s = is_some (kind_in s)
+right wrong.Unconfigured h s = h.configured || of_kind served_unconfigured (kind_in s)
+right wrong.Value h s = of_kind (λ k. value_fits k (setup_of s).value) (kind_in s)
+right wrong.Index h s = of_kind (λ k. index_fits h.identity.ports k (setup_of s).index) (kind_in s)
+right wrong.Length h s = of_kind (λ k. length_fits k (setup_of s).length) (kind_in s)
 
 -- in the order type and code, hub unconfigured, value, index, length
 abbrev pub place : RequestFault → ℕ
@@ -212,16 +215,16 @@ gets_reason BusReset n = is_number n
 
 abbrev pub enough_for : Reason → Option Answer
 -- 0 done (ACK)
-enough_for (HeldBy b) = some (plain_answer 0)
-enough_for (Reused b) = some (plain_answer 0)
-enough_for (TookFree b) = some (plain_answer 0)
+enough_for (HeldBy b) = Some (plain_answer 0)
+enough_for (Reused b) = Some (plain_answer 0)
+enough_for (TookFree b) = Some (plain_answer 0)
 -- 3 no buffer (NAK)
-enough_for LimitReached = some (plain_answer 3)
-enough_for NoRoom = some (plain_answer 3)
+enough_for LimitReached = Some (plain_answer 3)
+enough_for NoRoom = Some (plain_answer 3)
 -- 1 data
-enough_for (Changed c) = some (pid_answer 1 0 (bitmap_by c ∷ []))
+enough_for (Changed c) = Some (pid_answer 1 0 (bitmap_by c ∷ []))
 -- 2 STALL
-enough_for (Wrong w) = some (plain_answer 2)
+enough_for (Wrong w) = Some (plain_answer 2)
 -- the number is given where 5 to 8 applies; no reason is enough for nothing
-enough_for (Number n) = none
-enough_for Nothing = none
+enough_for (Number n) = None
+enough_for Nothing = None

@@ -1,18 +1,16 @@
 -- Internal, pinned by `WhyClaims` (Claims.antt): which reason the tool gives. `TrueOf` (Said.antt) says when a reason is true, and the claims
 -- say that this one is, that no other is, and that it is enough.
-use Rattle.std.specs.Prelude.{ℕ, cond, List, eqb, get_or}
+use Rattle.std.specs.Prelude.{ℕ, cond, List, eqb, get_or, Result, Ok, Err}
 use Rattle.port.specs.declared.Port.{Port}
 use Rattle.port.specs.Reaction.{new_port}
+use Rattle.translator.specs.declared.Outside.{Outside}
 use Rattle.translator.specs.declared.Choice.{Choice}
 use Rattle.translator.specs.declared.Choice.TheVariants as choice
-use Rattle.translator.specs.declared.StartAnswer.{StartAnswer}
-use Rattle.translator.specs.declared.StartAnswer.TheVariants.{Outside, Chosen}
 use Rattle.translator.specs.StartSplit.{start_split}
 use Rattle.numbers.specs.Split.{split_from}
 use Rattle.request.specs.declared.Fault.{Fault}
 use Rattle.request.specs.declared.Fault.TheVariants as fault
 use Rattle.request.specs.declared.Request.{Request}
-use Rattle.request.specs.declared.Request.TheVariants as request
 use Rattle.request.specs.Request.{request_of}
 use Rattle.hub.specs.declared.Hub.{Hub}
 use Rattle.hub.specs.Call.{Call, Control, Poll, Start, Complete, Launch, Deliver, Event, Tick, BusReset}
@@ -34,9 +32,9 @@ choice_reason (choice.Held n) = HeldBy n
 choice_reason (choice.Reused n) = Reused n
 choice_reason (choice.Took n) = TookFree n
 
-abbrev pub start_reason : StartAnswer → Reason
-start_reason Outside = Nothing
-start_reason (Chosen c) = choice_reason c
+abbrev pub start_reason : Result Choice Outside → Reason
+start_reason (Err o) = Nothing
+start_reason (Ok c) = choice_reason c
 
 -- the change bits of the ports
 unfoldable pub changes_by_port : List Port → PortChanges
@@ -61,18 +59,9 @@ as_request_fault fault.Index = wrong.Index
 as_request_fault fault.Length = wrong.Length
 
 -- the fault that reading a request found
-abbrev pub own_fault : Request → Reason
-own_fault (request.Wrong f) = Wrong (as_request_fault f)
-own_fault (request.SetConfiguration on) = Nothing
-own_fault request.GetConfiguration = Nothing
-own_fault (request.GetHubDescriptor n) = Nothing
-own_fault request.GetHubStatus = Nothing
-own_fault (request.GetPortStatus n) = Nothing
-own_fault request.ClearHubFeature = Nothing
-own_fault (request.ClearPortFeature n f) = Nothing
-own_fault (request.SetPortFeature n f) = Nothing
-own_fault (request.ClearTTBuffer p) = Nothing
-own_fault request.ResetTT = Nothing
+abbrev pub own_fault : Result Request Fault → Reason
+own_fault (Err f) = Wrong (as_request_fault f)
+own_fault (Ok r) = Nothing
 
 -- the hub's configuration is looked at behind type and code, before the other fields
 unfoldable pub request_reason : Hub → List ℕ → Reason

@@ -6,7 +6,7 @@ ghost use Rattle.hub.specs.Call.Call.{Control, Poll, Start, Complete, Launch, De
 ghost use Rattle.hub.specs.Step.{step};
 ghost use Rattle.why.specs.Said.{served_unconfigured, place};
 ghost use Rattle.why.specs.Bytes.{plain_bytes, bytes_of, ReasonsApart};
-ghost use Rattle.why.specs.Why.{numbered, start_reason, changes_by_port, poll_reason, as_request_fault, own_fault, request_reason, why_of};
+ghost use Rattle.why.specs.Why.{numbered, start_reason, changes_by_port, poll_reason, as_request_fault, request_reason, why_of};
 ghost use Rattle.why.specs.Claims.{WhyClaims};
 ghost use Rattle.why.specs.ExplainedRuns.{Demand3WithReasons, explaining};
 ghost use Rattle.why.specs.Cases.{WhyCases};
@@ -15,8 +15,8 @@ ghost use Rattle.why.specs.Mistakes.{WhyMistakesShutOut};
 use buffer::BufferNumber;
 use hub::Hub;
 use port::{Changes, Port};
-use request::{Fault, Kind, Request};
-use translator::{Choice, StartAnswer};
+use request::{Fault, Kind, Setup};
+use translator::{Choice, Outside};
 
 // What can be wrong with a control request, in the order in which it is looked at: the request's own faults, and a hub that is unconfigured.
 #[derive(Clone, Copy)]
@@ -28,7 +28,7 @@ pub enum RequestFault {
     Length,
 }
 
-// Change bits by port; fields and no array, since it stands in an enum.
+// Change bits by port. Fields and no array: the claims are about every reason, and in a claim an array is a list of any length.
 #[derive(Clone, Copy)]
 pub struct PortChanges {
     pub port1: Changes,
@@ -66,54 +66,38 @@ pub enum Reason {
 fn number_first(number: u8, rest: Reason) -> Reason
     ensures { result ≡ numbered number rest }
 {
-    if bools::both(5 <= number, number <= 8) {
+    if (5 <= number) & (number <= 8) {
         Reason::Number(number)
     } else {
         rest
     }
 }
 
-fn start_reason(answer: StartAnswer) -> Reason
+fn start_reason(answer: Result<Choice, Outside>) -> Reason
     ensures { result ≡ start_reason answer }
 {
     match answer {
-        StartAnswer::Outside => Reason::Nothing,
-        StartAnswer::Chosen(choice) => match choice {
-            Choice::NoRoom => Reason::NoRoom,
-            Choice::LimitReached => Reason::LimitReached,
-            Choice::Held(n) => Reason::HeldBy(n),
-            Choice::Reused(n) => Reason::Reused(n),
-            Choice::Took(n) => Reason::TookFree(n),
-        },
+        Err(Outside) => Reason::Nothing,
+        Ok(Choice::NoRoom) => Reason::NoRoom,
+        Ok(Choice::LimitReached) => Reason::LimitReached,
+        Ok(Choice::Held(n)) => Reason::HeldBy(n),
+        Ok(Choice::Reused(n)) => Reason::Reused(n),
+        Ok(Choice::Took(n)) => Reason::TookFree(n),
     }
-}
-
-fn changes_of(port: Port) -> Changes
-    ensures { result ≡ port.changes }
-{
-    let changes = port.changes;
-    changes
 }
 
 #[tactic(auto, unfolding(crate::specs::Why::changes_by_port))]
 fn changes_by_port(ports: [Port; 7]) -> PortChanges
     ensures { result ≡ changes_by_port ports }
 {
-    let p1 = ports[0];
-    let p2 = ports[1];
-    let p3 = ports[2];
-    let p4 = ports[3];
-    let p5 = ports[4];
-    let p6 = ports[5];
-    let p7 = ports[6];
     PortChanges {
-        port1: changes_of(p1),
-        port2: changes_of(p2),
-        port3: changes_of(p3),
-        port4: changes_of(p4),
-        port5: changes_of(p5),
-        port6: changes_of(p6),
-        port7: changes_of(p7),
+        port1: ports[0].changes,
+        port2: ports[1].changes,
+        port3: ports[2].changes,
+        port4: ports[3].changes,
+        port5: ports[4].changes,
+        port6: ports[5].changes,
+        port7: ports[6].changes,
     }
 }
 
@@ -128,33 +112,16 @@ fn poll_reason(number: u8, changes: PortChanges) -> Reason
     }
 }
 
-fn as_request_fault(fault: Fault) -> RequestFault
-    ensures { result ≡ as_request_fault fault }
-{
-    match fault {
-        Fault::TypeOrCode => RequestFault::TypeOrCode,
-        Fault::Value => RequestFault::Value,
-        Fault::Index => RequestFault::Index,
-        Fault::Length => RequestFault::Length,
-    }
-}
+impl From<Fault> for RequestFault {
+    ghost from_gives = { λ fault own. own ≡ as_request_fault fault };
 
-// The fault that reading a request found.
-fn own_fault(request: Request) -> Reason
-    ensures { result ≡ own_fault request }
-{
-    match request {
-        Request::Wrong(fault) => Reason::Wrong(as_request_fault(fault)),
-        Request::SetConfiguration(_) => Reason::Nothing,
-        Request::GetConfiguration => Reason::Nothing,
-        Request::GetHubDescriptor(_) => Reason::Nothing,
-        Request::GetHubStatus => Reason::Nothing,
-        Request::GetPortStatus(_) => Reason::Nothing,
-        Request::ClearHubFeature => Reason::Nothing,
-        Request::ClearPortFeature(_, _) => Reason::Nothing,
-        Request::SetPortFeature(_, _) => Reason::Nothing,
-        Request::ClearTTBuffer(_) => Reason::Nothing,
-        Request::ResetTT => Reason::Nothing,
+    fn from(fault: Fault) -> RequestFault {
+        match fault {
+            Fault::TypeOrCode => RequestFault::TypeOrCode,
+            Fault::Value => RequestFault::Value,
+            Fault::Index => RequestFault::Index,
+            Fault::Length => RequestFault::Length,
+        }
     }
 }
 
@@ -162,19 +129,10 @@ fn own_fault(request: Request) -> Reason
 fn served_unconfigured(kind: Kind) -> bool
     ensures { result ≡ served_unconfigured kind }
 {
-    match kind {
-        Kind::Unknown => false,
-        Kind::SetConfiguration => true,
-        Kind::GetConfiguration => true,
-        Kind::GetHubDescriptor => true,
-        Kind::GetHubStatus => false,
-        Kind::GetPortStatus => false,
-        Kind::ClearHubFeature => false,
-        Kind::ClearPortFeature => false,
-        Kind::SetPortFeature => false,
-        Kind::ClearTTBuffer => false,
-        Kind::ResetTT => false,
-    }
+    matches!(
+        kind,
+        Kind::SetConfiguration | Kind::GetConfiguration | Kind::GetHubDescriptor
+    )
 }
 
 // ---- the calls
@@ -182,40 +140,37 @@ fn served_unconfigured(kind: Kind) -> bool
 pub fn explain_control(hub: Hub, lane: u32, setup: &[u8], room: usize) -> Reason
     ensures { result ≡ why_of hub (Control lane setup.now room) }
 {
-    if setup.len() != 8 {
+    let Ok(bytes) = <[u8; 8]>::try_from(setup) else {
         return Reason::Number(6);
-    }
-    let bytes = [
-        setup[0], setup[1], setup[2], setup[3], setup[4], setup[5], setup[6], setup[7],
-    ];
+    };
     let o = hub.control(lane, setup, room);
     number_first(o.reply.number, request_reason(hub, bytes))
 }
 
 // The hub's configuration is looked at behind type and code, before the other fields.
+#[tactic(auto, unfolding(crate::specs::Why::request_reason))]
 fn request_reason(hub: Hub, bytes: [u8; 8]) -> Reason
     ensures { result ≡ request_reason hub bytes }
 {
-    let s = request::setup_of(bytes);
-    let kind = request::kind_of(s.requesttype, s.code);
-    if kind.is_known() {
-        if bools::either(hub.configured, served_unconfigured(kind)) {
-            own_fault(request::read(bytes, hub.port_count()))
-        } else {
-            Reason::Wrong(RequestFault::Unconfigured)
-        }
-    } else {
-        Reason::Wrong(RequestFault::TypeOrCode)
+    let s = Setup::from(bytes);
+    let Some(kind) = request::kind_of(s.requesttype, s.code) else {
+        return Reason::Wrong(RequestFault::TypeOrCode);
+    };
+    if !(hub.configured | served_unconfigured(kind)) {
+        return Reason::Wrong(RequestFault::Unconfigured);
+    }
+    match request::read(bytes, hub.port_count()) {
+        Ok(_) => Reason::Nothing,
+        Err(fault) => Reason::Wrong(RequestFault::from(fault)),
     }
 }
 
 pub fn explain_poll(hub: Hub, lane: u32, room: usize) -> Reason
     ensures { result ≡ why_of hub (Poll lane room) }
 {
-    let ports = hub.ports;
     let o = hub.poll(lane, room);
     let number = o.reply.number;
-    number_first(number, poll_reason(number, changes_by_port(ports)))
+    number_first(number, poll_reason(number, changes_by_port(hub.ports)))
 }
 
 pub fn explain_start_split(
@@ -231,14 +186,12 @@ pub fn explain_start_split(
 ) -> Reason
     ensures { result ≡ why_of hub (Start lane pid transfer lowspeed toggle address endpoint payload.now) }
 {
-    let translator = hub.translator;
     let split = numbers::split_of(lane, pid, transfer, lowspeed, toggle, address, endpoint);
     let o = hub.start_split(
         lane, pid, transfer, lowspeed, toggle, address, endpoint, payload,
     );
-    let started = translator.start_split(split, payload);
-    let said = started.answer;
-    number_first(o.reply.number, start_reason(said))
+    let started = hub.translator.start_split(split, payload);
+    number_first(o.reply.number, start_reason(started.answer))
 }
 
 #[tactic(auto, unfolding(crate::specs::Why::rule_reason, crate::specs::Why::why_of))]
@@ -320,21 +273,14 @@ fn plain_bytes(kind: u8, value: u8) -> ReasonBytes
 fn changes_bytes(c: PortChanges) -> ReasonBytes
     ensures { result ≡ bytes_of (Reason.Changed c) }
 {
-    let c1 = c.port1;
-    let c2 = c.port2;
-    let c3 = c.port3;
-    let c4 = c.port4;
-    let c5 = c.port5;
-    let c6 = c.port6;
-    let c7 = c.port7;
     let changes = [
-        c1.byte(),
-        c2.byte(),
-        c3.byte(),
-        c4.byte(),
-        c5.byte(),
-        c6.byte(),
-        c7.byte(),
+        c.port1.byte(),
+        c.port2.byte(),
+        c.port3.byte(),
+        c.port4.byte(),
+        c.port5.byte(),
+        c.port6.byte(),
+        c.port7.byte(),
     ];
     ReasonBytes {
         kind: 7,

@@ -1,8 +1,10 @@
 use Rattle.area.proofs.Parts.{buffer_none, buffer_some}
+use Rattle.area_check.specs.Read.{buffer_of}
+use mathlib.Core.Path.{ap, ◌∙◌}
 use Rattle.area.proofs.buffer_at.Goals as goal
 
-pub returns-then-area-end : goal.returns-then-area-end
-returns-then-area-end c = buffer_none _ _ c.if-area-end.true c.vacant.ensures
-
 pub returns : goal.returns
-returns c = buffer_some _ _ c.if-area-end.false c.buffer_of.ensures
+returns c = buffer_some _ _ c.in-Some.ensures.0 (c.buffer_of.ensures ∙ ap buffer_of c.in-Some.ensures.1)
+
+pub returns-in_default : goal.returns-in_default
+returns-in_default c = buffer_none _ _ c.in_default.ensures c.vacant.ensures

@@ -5,7 +5,6 @@ use borrow.Author.Rules.{rules}
 use Rattle.area.proofs.put_buffer.Goals as goal
 
 pub returns : goal.returns
-returns c = let f = c.fill in
-    let h = c.slot_bytes-head in
-    let n : length h.result ≡ 8 = search rules in
-    put_both c.args.b c.args.out.now _ _ c.requires (ap length f.ensures ∙ n) (f.ensures ∙ h.ensures) c.fill-2.ensures
+returns c = let f = c.copy_from_slice.ensures.after in
+    let n : length c.slot_bytes.result ≡ 8 = search rules in
+    put_both c.args.b.now c.args.out.now _ _ c.requires (ap length f ∙ n) (f ∙ c.slot_bytes.ensures) c.copy_from_slice-2.ensures.after

@@ -1,19 +1,12 @@
-use Rattle.area_check.proofs.Ties.{clash_first, clash_second, clash_both}
+use Rattle.area_check.proofs.Ties.{clash_is}
 use mathlib.Core.Path.{sym, ◌∙◌}
 use Rattle.area_check.proofs.clash.Goals as goal
 
-pub returns-then-not-is_held : goal.returns-then-not-is_held
-returns-then-not-is_held c = let a = c.args in
-    clash_first a.x.now a.y.now (sym c.is_held.ensures ∙ c.if-not-is_held.true)
-
-pub returns-then-not-is_held-2 : goal.returns-then-not-is_held-2
-returns-then-not-is_held-2 c = let a = c.args in
-    clash_second a.x.now a.y.now (sym c.is_held-2.ensures ∙ c.if-not-is_held-2.true)
-
 pub returns-then-same_key : goal.returns-then-same_key
-returns-then-same_key c = let a = c.args in
-    rw (sym c.same_key.ensures ∙ c.if-same_key.true) at (clash_both a.x.now a.y.now (sym c.is_held.ensures ∙ c.if-not-is_held.false) (sym c.is_held-2.ensures ∙ c.if-not-is_held-2.false))
+returns-then-same_key c = c.if-same_key.true ∙ (rw (sym c.both_held.ensures ∙ c.if-both_held.true, sym c.same_key.ensures ∙ c.if-same_key.true) at (clash_is c.args.x.now c.args.y.now))
 
-pub returns : goal.returns
-returns c = let a = c.args in
-    c.same_place.ensures ∙ rw (sym c.same_key.ensures ∙ c.if-same_key.false) at (clash_both a.x.now a.y.now (sym c.is_held.ensures ∙ c.if-not-is_held.false) (sym c.is_held-2.ensures ∙ c.if-not-is_held-2.false))
+pub returns-else-same_key : goal.returns-else-same_key
+returns-else-same_key c = c.same_place.ensures ∙ (rw (sym c.both_held.ensures ∙ c.if-both_held.true, sym c.same_key.ensures ∙ c.if-same_key.false) at (clash_is c.args.x.now c.args.y.now))
+
+pub returns-else-both_held : goal.returns-else-both_held
+returns-else-both_held c = c.if-both_held.false ∙ (rw (sym c.both_held.ensures ∙ c.if-both_held.false) at (clash_is c.args.x.now c.args.y.now))

@@ -1,14 +1,24 @@
-use Rattle.area_check.proofs.Ties.{clashing_two, clashing_three, clashing_four}
-use mathlib.Core.Path.{◌∙◌}
+use Rattle.area_check.proofs.Ties.{clashing_step}
+use Rattle.area_check.proofs.Rows.{rest_is}
+use Rattle.area_check.specs.Read.{slot_of, clash, clashing}
+use Rattle.std.specs.List.{list_any}
+use mathlib.Core.Bool.{Bool, ◌||◌}
+use mathlib.Core.List.{List, [], map}
+use mathlib.Core.Path.{sym, ap, ◌∙◌}
+use lib.ListN.{get_or, drop}
+use Prim.Native.Nat.{ℕ, ◌+◌}
 use Rattle.area_check.proofs.clashing.Goals as goal
 
-pub returns-then-n-lt3 : goal.returns-then-n-lt3
-returns-then-n-lt3 c = c.pair_clashes-two.ensures ∙ clashing_two c.args.n c.args.b.now c.requires.0 c.if-n-lt3.true
+pub returns-then-clashes : goal.returns-then-clashes
+returns-then-clashes c =
+    let l = c.args.rows.now in
+    let i = c.loop-i.i in
+    let e = sym (c.clashes.ensures ∙ ap (λ (r : List (List ℕ)). list_any (λ y. clash (slot_of (get_or l i [])) (slot_of y)) r) (rest_is l (i + 1))) ∙ c.if-clashes.true in
+    sym (c.loop-i.invariant ∙ clashing_step l i c.loop-i-test.true ∙ ap (λ (b : Bool). b || clashing (map slot_of (drop (i + 1) l))) e)
 
-pub returns-then-n-lt4 : goal.returns-then-n-lt4
-returns-then-n-lt4 c = rw (c.either-three.ensures, c.either.ensures, c.pair_clashes-2.ensures, c.pair_clashes.ensures, c.pair_clashes-two.ensures)
-    (clashing_three c.args.n c.args.b.now c.requires.0 c.if-n-lt3.false c.if-n-lt4.true)
-
-pub returns : goal.returns
-returns c = rw (c.either-4.ensures, c.either-3.ensures, c.either-2.ensures, c.pair_clashes-5.ensures, c.pair_clashes-4.ensures, c.pair_clashes-3.ensures, c.either-three.ensures, c.either.ensures, c.pair_clashes-2.ensures, c.pair_clashes.ensures, c.pair_clashes-two.ensures)
-    (clashing_four c.args.n c.args.b.now c.requires.0 c.if-n-lt4.false c.requires.1)
+pub loop-i-preserved : goal.loop-i-preserved
+loop-i-preserved c =
+    let l = c.args.rows.now in
+    let i = c.loop-i.i in
+    let e = sym (c.clashes.ensures ∙ ap (λ (r : List (List ℕ)). list_any (λ y. clash (slot_of (get_or l i [])) (slot_of y)) r) (rest_is l (i + 1))) ∙ c.if-clashes.false in
+    c.loop-i.invariant ∙ clashing_step l i c.loop-i-test.true ∙ ap (λ (b : Bool). b || clashing (map slot_of (drop (i + 1) l))) e

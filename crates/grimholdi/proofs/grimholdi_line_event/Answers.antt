@@ -1,13 +1,12 @@
-use Rattle.grimholdi.proofs.Entries.{settles, refuses}
+use Rattle.grimholdi.proofs.Entries.{refuses, settles}
 use Rattle.grimholdi.proofs.grimholdi_line_event.Goals as goal
 
-pub returns-then-read : goal.returns-then-read
-returns-then-read c =
-    let all = settles _ _ c.read_area-read.ensures c.if-read.true _ _ c.line_event.result
-    c.line_event.ensures _ _ (c.settle.ensures.value, c.settle.ensures.area) in
+pub returns-in_default : goal.returns-in_default
+returns-in_default c =
+    let all = refuses _ c.in_default.ensures _ _ _ c.refused.ensures in
     record { value = all.0; area = all.1 }
 
 pub returns : goal.returns
 returns c =
-    let all = refuses _ _ c.read_area-read.ensures c.if-read.false _ _ _ c.plain_answer.ensures in
+    let all = settles _ _ c.in-Some.ensures _ _ c.line_event.result c.line_event.ensures _ _ (c.settle.ensures.value, c.settle.ensures.area) in
     record { value = all.0; area = all.1 }

@@ -1,31 +1,30 @@
 use native.Mathlib.Omega.{arith}
-use mathlib.Core.Path.{sym, ◌∙◌, ap}
-use Rattle.recording.specs.Calls.{is_some}
-use Rattle.recording.proofs.Rows.{none_there, turn_size, turn_some, at_end}
+use mathlib.Core.Path.{◌≡◌, sym, ◌∙◌}
+use Prim.Native.Nat.{◌<◌}
+use lib.ListN.{length}
+use Rattle.call_bytes.proofs.Exact.{read_size}
+use Rattle.recording.proofs.Rows.{none_there, turn_less, turn_some, none_left}
 use Rattle.recording.proofs.are_records.Goals as goal
 
-pub returns-then-not-is_known : goal.returns-then-not-is_known
-returns-then-not-is_known c =
-    sym
-    (sym c.loop-at.invariant.1 ∙ none_there c.args.s.now _ c.loop-at-test.true _ c.read_record-record.ensures (sym c.is_known.ensures ∙ c.if-not-is_known.true))
+pub returns-in_default : goal.returns-in_default
+returns-in_default c =
+    let some : 0 < length c.loop-rest.rest.now = grind arith in
+    sym (none_there c.loop-rest.rest.now some (sym c.read_record.ensures ∙ c.in_default.is)) ∙ c.loop-rest.invariant
 
-pub overflow_add-at : goal.overflow_add-at
-overflow_add-at c =
-    omega
-    (arith, turn_size c.args.s.now _ c.loop-at-test.true _ c.read_record-record.ensures (sym c.is_known.ensures ∙ c.if-not-is_known.false))
+pub slice_bounds-rest-count : goal.slice_bounds-rest-count
+slice_bounds-rest-count c = (read_size c.loop-rest.rest.now c.in-Some.record (sym c.read_record.ensures ∙ c.in-Some.is)).1
 
-pub loop-at-smaller : goal.loop-at-smaller
-loop-at-smaller c =
-    omega
-    (arith, turn_size c.args.s.now _ c.loop-at-test.true _ c.read_record-record.ensures (sym c.is_known.ensures ∙ c.if-not-is_known.false))
+pub slice_bounds-rest-start : goal.slice_bounds-rest-start
+slice_bounds-rest-start c = (read_size c.loop-rest.rest.now c.in-Some.record (sym c.read_record.ensures ∙ c.in-Some.is)).1
 
-pub loop-at-preserved : goal.loop-at-preserved
-loop-at-preserved c =
-    let known = sym c.is_known.ensures ∙ c.if-not-is_known.false in
-    let l = c.args.s.now in (
-      (turn_size l _ c.loop-at-test.true _ c.read_record-record.ensures known).1,
-      sym (turn_some l _ c.loop-at-test.true _ c.read_record-record.ensures known) ∙ c.loop-at.invariant.1,
-    )
+pub loop-rest-smaller : goal.loop-rest-smaller
+loop-rest-smaller c = turn_less c.loop-rest.rest.now c.in-Some.record (sym c.read_record.ensures ∙ c.in-Some.is)
+
+pub loop-rest-preserved : goal.loop-rest-preserved
+loop-rest-preserved c =
+    turn_some c.loop-rest.rest.now c.in-Some.record (sym c.read_record.ensures ∙ c.in-Some.is) ∙ c.loop-rest.invariant
 
 pub returns : goal.returns
-returns c = let l = c.args.s.now in sym (ap is_some (at_end l c.loop-at.at (omega arith))) ∙ c.loop-at.invariant.1
+returns c =
+    let empty : length c.loop-rest.rest.now ≡ 0 = grind arith in
+    sym (none_left c.loop-rest.rest.now empty) ∙ c.loop-rest.invariant

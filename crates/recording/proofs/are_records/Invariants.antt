@@ -1,11 +1,11 @@
-use Prim.Native.Nat.{◌-◌, ◌≤◌}
 use mathlib.Core.Path.{◌≡◌}
-use lib.ListN.{length, drop}
-use Rattle.recording.specs.Calls.{calls_of, is_some}
+use lib.ListN.{length}
+use Rattle.std.proofs.Common.{is_some}
+use Rattle.recording.specs.Calls.{calls_of}
 use Rattle.recording.proofs.are_records.Given as goal
 
-abbrev pub invariant-loop-at : goal.invariant-loop-at
-invariant-loop-at l = (l.at ≤ length l.s) × (is_some (calls_of (drop l.at l.s)) ≡ is_some (calls_of l.s))
+abbrev pub invariant-loop-rest : goal.invariant-loop-rest
+invariant-loop-rest l = is_some (calls_of l.rest) ≡ is_some (calls_of l.s)
 
-abbrev pub decreases-loop-at : goal.decreases-loop-at
-decreases-loop-at l = length l.s - l.at
+abbrev pub decreases-loop-rest : goal.decreases-loop-rest
+decreases-loop-rest l = length l.rest

@@ -1,19 +1,17 @@
-use Rattle.recording.proofs.Verdicts.{wrong_length_lem, wrong_check, wrong_number, right_number}
+use Rattle.recording.proofs.Verdicts.{wrong_length, wrong_check, wrong_number, the_body}
 use Rattle.recording.proofs.check.Goals as goal
 
-pub returns-then-s-ne512 : goal.returns-then-s-ne512
-returns-then-s-ne512 c = wrong_length_lem c.args.s.now _ _ c.if-s-ne512.true
+pub returns-in_default : goal.returns-in_default
+returns-in_default c = wrong_length c.args.s.now _ c.in_default.ensures.cases
 
 pub returns-then-word_sum-ne0 : goal.returns-then-word_sum-ne0
-returns-then-word_sum-ne0 c =
-    wrong_check c.args.s.now _ _ c.if-s-ne512.false _ c.word_sum.ensures c.if-word_sum-ne0.true
+returns-then-word_sum-ne0 c = wrong_check c.in-Some.ensures.cases _ c.word_sum.ensures c.if-word_sum-ne0.true
 
-pub returns-then-both : goal.returns-then-both
-returns-then-both c =
-    wrong_number c.args.s.now _ _ c.if-s-ne512.false _ c.word_sum.ensures c.if-word_sum-ne0.false _
-    c.number_fits.ensures _ c.both.ensures c.if-both.true
+pub returns-then-not-number_right : goal.returns-then-not-number_right
+returns-then-not-number_right c =
+    wrong_number c.in-Some.ensures.cases _ c.word_sum.ensures c.if-word_sum-ne0.false c.number_right.ensures c.if-not-number_right.true
 
 pub returns : goal.returns
 returns c =
-    right_number c.args.s.now _ _ c.if-s-ne512.false _ c.word_sum.ensures c.if-word_sum-ne0.false _
-    c.number_fits.ensures _ c.both.ensures c.if-both.false _ c.body.ensures
+    the_body c.in-Some.ensures.cases _ c.word_sum.ensures c.if-word_sum-ne0.false c.number_right.ensures c.if-not-number_right.false
+    c.body.ensures

@@ -3,8 +3,8 @@ use Prim.Native.Nat.{◌-◌}
 use lib.ListN.{length}
 use Rattle.replay.proofs.run_records.Given as goal
 
-abbrev pub invariant-loop-ran : goal.invariant-loop-ran
-invariant-loop-ran l = Going l.initial.ran.hub l.initial.ran.counts l.s l.initial.out l.ran l.out
+abbrev pub invariant-loop-taken : goal.invariant-loop-taken
+invariant-loop-taken l = Going l.fn.hub l.initial.ran.counts l.s l.initial.out l.ran l.out
 
-abbrev pub decreases-loop-ran : goal.decreases-loop-ran
-decreases-loop-ran l = length l.s - l.ran.at
+abbrev pub decreases-loop-taken : goal.decreases-loop-taken
+decreases-loop-taken l = length l.s - l.ran.at

@@ -1,26 +1,29 @@
-use native.Mathlib.Omega.{arith}
+use Rattle.std.proofs.Common.{◌≡◌, Bool, ◌&&◌, length, refl, rules, sym, ap}
 use borrow.Author.Tests.{ne_eqb}
-use mathlib.Core.Path.{refl, ◌∙◌}
+use Rattle.numbers.specs.Named.{is_lane}
 use Rattle.hub.specs.Call.{Control}
+use Rattle.hub.specs.declared.Refusal.TheVariants.{Outside}
 use Rattle.hub.specs.Checks.{within, has_space, not_silent, fitting}
 use Rattle.hub.specs.Step.{served}
-use Rattle.hub.proofs.Calls.{control_served}
 use Rattle.hub.proofs.Order.{refused_by, served_by_lem}
 use Rattle.hub.proofs.Hub.control.Goals as goal
 
-pub returns-then-setup-ne8 : goal.returns-then-setup-ne8
+pub returns-in_default : goal.returns-in_default
 unfolding within has_space not_silent fitting
-returns-then-setup-ne8 c =
-    refused_by _ (Control _ _ _) c.answer.ensures c.first_refusal-refusal.ensures (c.both.ensures ∙ rw c.is_lane.ensures) refl refl refl
-    (λ z. omega (arith, z, rw (c.both.ensures, ne_eqb _ 8 c.if-setup-ne8.true) at c.first_refusal-refusal.ensures))
+returns-in_default c =
+    let long : ¬ (length c.args.setup.now ≡ 8) = search rules in
+    refused_by _ (Control _ _ _) Outside c.refuse.ensures refl (ap (λ (b : Bool). b && is_lane c.args.lane) (sym (ne_eqb (length c.args.setup.now) 8 long))) refl refl refl
 
-pub returns-then-refusal-ne0 : goal.returns-then-refusal-ne0
+pub returns-in-Err : goal.returns-in-Err
 unfolding within has_space not_silent fitting
-returns-then-refusal-ne0 c = refused_by _ (Control _ _ _) c.answer-then-refusal-ne0.ensures c.first_refusal-refusal.ensures (c.both.ensures ∙ rw c.is_lane.ensures) refl refl refl c.if-refusal-ne0.true
+returns-in-Err c =
+    let long : length c.args.setup.now ≡ 8 = search rules in
+    refused_by _ (Control _ _ _) _ c.refuse-in-Err.ensures c.in-Err.ensures (rw (c.is_lane.ensures, long)) refl refl refl
 
 pub returns : goal.returns
 unfolding within has_space not_silent fitting served
 returns c =
-    let a = c.args in
-    served_by_lem _ (Control _ _ _) c.first_refusal-refusal.ensures (c.both.ensures ∙ rw c.is_lane.ensures) refl refl refl c.if-refusal-ne0.false
-    (control_served _ a.lane a.setup.now c.serve.ensures c.lane_of.ensures (c.read.ensures ∙ rw c.port_count.ensures))
+    let long : length c.args.setup.now ≡ 8 = search rules in
+    let bytes : c.in-Ok.bytes ≡ c.args.setup.now = search rules in
+    served_by_lem _ (Control _ _ _) c.in_default-first_refusal.ensures (rw (c.is_lane.ensures, long)) refl refl refl
+    (rw (c.serve.ensures, c.lane_of.ensures, c.read.ensures, c.port_count.ensures, bytes))

@@ -1,20 +1,20 @@
-use mathlib.Core.Path.{◌∙◌}
+use Rattle.std.proofs.Common.{Bool, sym, ap, ap₂, ◌&&◌, ◌∙◌}
+use Rattle.port.specs.declared.Port.{Port}
+use Rattle.port.specs.Method.{answered}
 use Rattle.hub.specs.Checks.{within}
 use Rattle.hub.proofs.Calls.{event_refused, event_stepped, event_at_lem}
 use Rattle.hub.proofs.Hub.line_event.Goals as goal
 
-pub returns-then-refusal-ne0 : goal.returns-then-refusal-ne0
+pub returns-in-Err : goal.returns-in-Err
 unfolding within
-returns-then-refusal-ne0 c =
-    event_refused _ _ _ c.answer.ensures c.first_refusal-refusal.ensures
-    (c.both-within.ensures ∙ rw (c.port_named.ensures, c.port_count.ensures, c.is_event.ensures))
-    c.if-refusal-ne0.true
+returns-in-Err c = event_refused _ _ _ _ c.refuse.ensures c.in-Err.ensures (rw (c.port_named.ensures, c.port_count.ensures, c.is_event.ensures))
 
 pub returns : goal.returns
 unfolding within
 returns c =
     let a = c.args in
-    event_stepped _ _ _ c.first_refusal-refusal.ensures
-    (c.both-within.ensures ∙ rw (c.port_named.ensures, c.port_count.ensures, c.is_event.ensures))
-    c.if-refusal-ne0.false
-    (event_at_lem a.self a.event a.port c.with_step.ensures c.line_event.ensures c.port.ensures c.event_of.ensures)
+    event_stepped _ _ _ c.in_default.ensures
+    (ap₂ (λ (x y : Bool). x && y) c.is_event.ensures (c.port_named.ensures ∙ rw c.port_count.ensures))
+    (event_at_lem a.self a.event a.port c.with_event.ensures
+    (ap (λ (p : Port). answered p c.line_event.result) (sym c.port.ensures) ∙ c.line_event.ensures)
+    c.port.ensures c.event_of.ensures)

@@ -5,4 +5,4 @@ use Rattle.payload.proofs.Payload.give.Goals as goal
 pub returns : goal.returns
 returns c =
     let long : length c.args.self.bytes ≡ 64 = search rules in
-    gave c.args.self _ long c.lesser-len.ensures c.lesser-n.ensures (ap (λ l. l ++ drop c.lesser-n.result c.args.reply.now) c.copy_from_slice.ensures.after)
+    gave c.args.self _ long c.min.ensures c.min-n.ensures (ap (λ l. l ++ drop c.min-n.result c.args.reply.now) c.copy_from_slice.ensures.after)
