@@ -135,15 +135,16 @@ impl Key {
         }
     }
 
-    // The one test of keys. Most differ in their address.
+    // The one test of keys. Most differ in their address, so that it stands first; the others
+    // are joined by &, since the compiler makes four bytes of one word first out of && all through.
     #[tactic(auto, unfolding(crate::specs::Same::same_key))]
     pub fn same(self, other: Key) -> bool
         ensures { result ≡ same_key self other }
     {
         self.address == other.address
-            && self.lane == other.lane
-            && self.endpoint == other.endpoint
-            && self.direction == other.direction
+            && (self.lane == other.lane)
+                & (self.endpoint == other.endpoint)
+                & (self.direction == other.direction)
     }
 }
 

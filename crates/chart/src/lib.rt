@@ -91,40 +91,21 @@ fn event_column(event: LineEvent) -> usize
     ensures value { result ≡ event_column event }
     ensures small { result < 23 }
 {
-    match event {
-        LineEvent::AttachLow => 0,
-        LineEvent::AttachFull => 1,
-        LineEvent::Detach => 2,
-        LineEvent::Chirp => 3,
-        LineEvent::Wake => 4,
-        LineEvent::PortError => 5,
-        LineEvent::OverCurrentOn => 6,
-        LineEvent::OverCurrentOff => 7,
-    }
+    event as usize
 }
 
 fn set_column(feature: SettableFeature) -> usize
     ensures value { result ≡ set_column feature }
     ensures small { result < 23 }
 {
-    match feature {
-        SettableFeature::Suspend => 9,
-        SettableFeature::Reset => 10,
-        SettableFeature::Power => 11,
-    }
+    9 + feature as usize
 }
 
 fn change_place(bit: ChangeBit) -> usize
     ensures value { result ≡ change_place bit }
     ensures small { result < 5 }
 {
-    match bit {
-        ChangeBit::Connection => 0,
-        ChangeBit::Enable => 1,
-        ChangeBit::Suspend => 2,
-        ChangeBit::OverCurrent => 3,
-        ChangeBit::Reset => 4,
-    }
+    bit as usize
 }
 
 fn clear_column(feature: ClearableFeature) -> usize

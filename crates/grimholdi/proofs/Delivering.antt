@@ -3,6 +3,7 @@ use Prim.Native.Nat.{ℕ}
 use mathlib.Core.Path.{◌≡◌, refl, sym, ◌∙◌, ap}
 use mathlib.Core.Bool.{Bool, true, false, cond, not, ◌&&◌, true≢false}
 use mathlib.Core.List.{List}
+use mathlib.Core.Logic.{◌⊎◌, inl, inr}
 use lib.Dec.{eqb}
 use lib.ListN.{length, set}
 use Rattle.payload.specs.Payload.{payload_of}
@@ -115,14 +116,11 @@ module _ (a : List ℕ) (ok : accepts a ≡ true) (hd : Head) (e : hd ≡ head_a
           by_low (Running m) i
           ∙ ap (λ (x : Slot). delivered_as h (delivered t k l m x)) (sym (es ∙ ap (λ (x : Buffer). x.slot) (buffer_is a ok hd e m _ refl)) ∙ j)
 
-      pub on_empty : s ≡ Empty → (x : Answer) → x ≡ plain_struct 8 → Leaves a call x a
-      on_empty j x ex = rests a ok call 8 (by_slot Empty j) x ex
-
-      pub on_ready : {p : StartSplit} {d : DeviceResult} → s ≡ Ready p d → (x : Answer) → x ≡ plain_struct 8 → Leaves a call x a
-      on_ready j x ex = rests a ok call 8 (by_slot _ j) x ex
-
-      pub on_old : {p : StartSplit} {d : DeviceResult} → s ≡ Old p d → (x : Answer) → x ≡ plain_struct 8 → Leaves a call x a
-      on_old j x ex = rests a ok call 8 (by_slot _ j) x ex
+      pub not_pending : (s ≡ Empty) ⊎ ((p : StartSplit) × (d : DeviceResult) × s ≡ Ready p d) ⊎ ((p : StartSplit) × (d : DeviceResult) × s ≡ Old p d)
+          → (x : Answer) → x ≡ plain_struct 8 → Leaves a call x a
+      not_pending (inl j) x ex = rests a ok call 8 (by_slot Empty j) x ex
+      not_pending (inr (inl (p, d, j))) x ex = rests a ok call 8 (by_slot (Ready p d) j) x ex
+      not_pending (inr (inr (p, d, j))) x ex = rests a ok call 8 (by_slot (Old p d) j) x ex
 
       module _ {p : StartSplit} {d : ℕ} (j : s ≡ Pending p d) {f : Bool} (ef : f ≡ suits p.pid k) where
         abbrev ready : Delivered

@@ -3,11 +3,11 @@ use Prim.Native.Nat.{ℕ}
 use mathlib.Core.Path.{◌≡◌, refl, sym, ◌∙◌, ap}
 use mathlib.Core.Bool.{true, false, not, true≢false}
 use mathlib.Core.List.{List}
+use mathlib.Core.Logic.{◌⊎◌, inl, inr}
 use lib.Dec.{eqb, leb}
 use lib.ListN.{length, take}
 use Rattle.payload.specs.Payload.{content, written}
 use Rattle.buffer.specs.declared.StartSplit.{StartSplit}
-use Rattle.buffer.specs.declared.DeviceResult.{DeviceResult}
 use Rattle.buffer.specs.declared.Slot.{Slot}
 use Rattle.buffer.specs.declared.Slot.TheVariants.{Empty, Pending, Ready, Old}
 use Rattle.buffer.specs.declared.Buffer.{Buffer}
@@ -77,11 +77,9 @@ module _ (a : List ℕ) (ok : accepts a ≡ true) (hd : Head) (e : hd ≡ head_a
         ruled a ok call refl refl (configured_is a ok hd e) g (unfit h t.low)
         ∙ ap (λ (x : Head). launched_as h (launch_by t x.low)) (sym (head_is a ok hd e))
 
-    pub running : {m : BufferNumber} → hd.low ≡ Running m → (x : Answer) → x ≡ plain_struct 8 → Unchanged a call r x
-    running l x ex = stays a ok call r 8 (served_is ∙ ap (λ (y : LowSide). launched_as h (launch_by t y)) l) x ex
-
-    pub abandoned : hd.low ≡ Abandoned → (x : Answer) → x ≡ plain_struct 8 → Unchanged a call r x
-    abandoned l x ex = stays a ok call r 8 (served_is ∙ ap (λ (y : LowSide). launched_as h (launch_by t y)) l) x ex
+    pub occupied : ((m : BufferNumber) × hd.low ≡ Running m) ⊎ (hd.low ≡ Abandoned) → (x : Answer) → x ≡ plain_struct 8 → Unchanged a call r x
+    occupied (inl (m, l)) x ex = stays a ok call r 8 (served_is ∙ ap (λ (y : LowSide). launched_as h (launch_by t y)) l) x ex
+    occupied (inr l) x ex = stays a ok call r 8 (served_is ∙ ap (λ (y : LowSide). launched_as h (launch_by t y)) l) x ex
 
     module _ (l : hd.low ≡ Idle) (s : List Slot) (es : s ≡ slots_at hd.ports.0 a) {f : Option (BufferNumber × ℕ)} (ef : f ≡ earliest (take hd.count.0 (bare s))) where
       idle : step h call ≡ launched_as h (launch_at t f)
@@ -105,14 +103,14 @@ module _ (a : List ℕ) (ok : accepts a ≡ true) (hd : Head) (e : hd ≡ head_a
             ∙ ap (λ (y : Buffer). launched_as h (launched t m y.payload y.slot)) (sym (buffer_is a ok hd e m b eb))
             ∙ ap (λ (y : Slot). launched_as h (launched t m b.payload y)) i
 
-        pub on_empty : b.slot ≡ Empty → (x : Answer) → x ≡ plain_struct 3 → Unchanged a call r x
-        on_empty i x ex = stays a ok call r 3 (by_slot Empty i) x ex
-
-        pub on_ready : {k : StartSplit} {d : DeviceResult} → b.slot ≡ Ready k d → (x : Answer) → x ≡ plain_struct 3 → Unchanged a call r x
-        on_ready i x ex = stays a ok call r 3 (by_slot _ i) x ex
-
-        pub on_old : {k : StartSplit} {d : DeviceResult} → b.slot ≡ Old k d → (x : Answer) → x ≡ plain_struct 3 → Unchanged a call r x
-        on_old i x ex = stays a ok call r 3 (by_slot _ i) x ex
+        pub not_pending : ((k : StartSplit) (d : ℕ) → b.slot ≡ Pending k d → ⊥) → (x : Answer) → x ≡ plain_struct 3 → Unchanged a call r x
+        not_pending none x ex = go b.slot refl
+          where
+            go : (k : Slot) → b.slot ≡ k → Unchanged a call r x
+            go Empty i = stays a ok call r 3 (by_slot Empty i) x ex
+            go (Pending k d) i = absurd (none k d i)
+            go (Ready k d) i = stays a ok call r 3 (by_slot (Ready k d) i) x ex
+            go (Old k d) i = stays a ok call r 3 (by_slot (Old k d) i) x ex
 
         pub launches : {k : StartSplit} {d : ℕ} → b.slot ≡ Pending k d → (x : Answer) (u v : List ℕ)
             → x ≡ struct_of (launch_answer k (content b.payload)) → u ≡ low_over (Running m) a → v ≡ written (content b.payload) r → Gives a call r x u v

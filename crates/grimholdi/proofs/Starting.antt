@@ -3,6 +3,7 @@ use Prim.Native.Nat.{ℕ}
 use mathlib.Core.Path.{◌≡◌, refl, sym, ◌∙◌, ap}
 use mathlib.Core.Bool.{Bool, true, cond, ◌&&◌, true≢false}
 use mathlib.Core.List.{List}
+use mathlib.Core.Logic.{◌⊎◌, inl, inr}
 use lib.ListN.{length, take}
 use Rattle.buffer.specs.declared.Key.{Key}
 use Rattle.buffer.specs.declared.StartSplit.{StartSplit}
@@ -14,6 +15,7 @@ use Rattle.std.specs.Prelude.{Err}
 use Rattle.translator.specs.declared.Translator.{Translator}
 use Rattle.translator.specs.declared.Choice.{Choice}
 use Rattle.translator.specs.declared.Choice.TheVariants.{NoRoom, LimitReached, Held, Reused, Took}
+use Rattle.translator.specs.Answers.{choice_number}
 use Rattle.translator.specs.Slots.{bare, slots_in}
 use Rattle.translator.specs.Limit.{permitted}
 use Rattle.translator.specs.StartSplit.{stored, start_by, start_split, outside}
@@ -77,15 +79,6 @@ module _ (a : List ℕ) (ok : accepts a ≡ true) (hd : Head) (e : hd ≡ head_a
         ∙ sym ef
         ∙ i)
 
-    pub no_room : f ≡ NoRoom → (x : Answer) → x ≡ plain_struct 3 → Leaves a call x a
-    no_room i x ex = rests a ok call 3 (by_choice NoRoom i) x ex
-
-    pub limit : f ≡ LimitReached → (x : Answer) → x ≡ plain_struct 3 → Leaves a call x a
-    limit i x ex = rests a ok call 3 (by_choice LimitReached i) x ex
-
-    pub held : {m : BufferNumber} → f ≡ Held m → (x : Answer) → x ≡ plain_struct 0 → Leaves a call x a
-    held i x ex = rests a ok call 0 (by_choice _ i) x ex
-
     store_left : (m : BufferNumber) → store_over s hd.ports.0 m k l a ≡ written (with_translator h (stored t m k l))
     store_left m =
         ap (λ (x : List Slot). store_over x hd.ports.0 m k l a) (slots_are a ok hd e s es)
@@ -93,8 +86,20 @@ module _ (a : List ℕ) (ok : accepts a ≡ true) (hd : Head) (e : hd ≡ head_a
         ∙ ap (store_over (slots_in t.buffers) h.identity.ports m k l) (form a ok)
         ∙ parts_exact_lem.store_put h m k l (valid a ok)
 
-    pub reused : {m : BufferNumber} → f ≡ Reused m → (x : Answer) (u : List ℕ) → x ≡ plain_struct 0 → u ≡ store_over s hd.ports.0 m k l a → Leaves a call x u
-    reused {m} i x u ex eu = leaves a ok call _ (by_choice (Reused m) i) x u ex (eu ∙ store_left m)
+    module _ (v : Choice) (ev : v ≡ f) (x : Answer) (ex : x ≡ plain_struct (choice_number v)) (u : List ℕ) where
+      answered : {b : Choice} → f ≡ b → x ≡ plain_struct (choice_number b)
+      answered i = ex ∙ ap (λ (y : Choice). plain_struct (choice_number y)) (ev ∙ i)
 
-    pub took : {m : BufferNumber} → f ≡ Took m → (x : Answer) (u : List ℕ) → x ≡ plain_struct 0 → u ≡ store_over s hd.ports.0 m k l a → Leaves a call x u
-    took {m} i x u ex eu = leaves a ok call _ (by_choice (Took m) i) x u ex (eu ∙ store_left m)
+      pub keeps : u ≡ a → ((m : BufferNumber) → f ≡ Reused m → ⊥) → ((m : BufferNumber) → f ≡ Took m → ⊥) → Leaves a call x u
+      keeps eu not_reused not_took = go f refl
+        where
+          go : (b : Choice) → f ≡ b → Leaves a call x u
+          go NoRoom i = leaves a ok call _ (by_choice NoRoom i) x u (answered i) (eu ∙ form a ok)
+          go LimitReached i = leaves a ok call _ (by_choice LimitReached i) x u (answered i) (eu ∙ form a ok)
+          go (Held m) i = leaves a ok call _ (by_choice (Held m) i) x u (answered i) (eu ∙ form a ok)
+          go (Reused m) i = absurd (not_reused m i)
+          go (Took m) i = absurd (not_took m i)
+
+      pub stores : {m : BufferNumber} → u ≡ store_over s hd.ports.0 m k l a → (f ≡ Reused m) ⊎ (f ≡ Took m) → Leaves a call x u
+      stores {m} eu (inl i) = leaves a ok call _ (by_choice (Reused m) i) x u (answered i) (eu ∙ store_left m)
+      stores {m} eu (inr i) = leaves a ok call _ (by_choice (Took m) i) x u (answered i) (eu ∙ store_left m)

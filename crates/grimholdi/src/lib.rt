@@ -295,19 +295,11 @@ pub fn grimholdi_start_split(
         return refused(refusal);
     }
     let slots = area_parts::slots_at(area, head.ports);
-    match translator::choose(slots, head.count, split.key()) {
-        Choice::NoRoom => started(Choice::NoRoom),
-        Choice::LimitReached => started(Choice::LimitReached),
-        Choice::Held(n) => started(Choice::Held(n)),
-        Choice::Reused(n) => {
-            area_parts::store(slots, head.ports, n, split, payload, area);
-            started(Choice::Reused(n))
-        }
-        Choice::Took(n) => {
-            area_parts::store(slots, head.ports, n, split, payload, area);
-            started(Choice::Took(n))
-        }
+    let choice = translator::choose(slots, head.count, split.key());
+    if let Choice::Reused(n) | Choice::Took(n) = choice {
+        area_parts::store(slots, head.ports, n, split, payload, area);
     }
+    started(choice)
 }
 
 pub fn grimholdi_complete_split(
@@ -361,24 +353,19 @@ pub fn grimholdi_launch(area: &mut [u8], reply: &mut [u8]) -> Answer
     }
     match head.low {
         LowSide::Idle => {}
-        LowSide::Running(_) => return unlaunched(NotLaunched::Occupied),
-        LowSide::Abandoned => return unlaunched(NotLaunched::Occupied),
+        LowSide::Running(_) | LowSide::Abandoned => return unlaunched(NotLaunched::Occupied),
     }
     let slots = area_parts::slots_at(area, head.ports);
     let Some((n, _)) = translator::earliest_of(slots, head.count) else {
         return unlaunched(NotLaunched::NothingPending);
     };
     let b = area_parts::buffer_at(area, head.ports, n);
-    match b.slot {
-        Slot::Empty => unlaunched(NotLaunched::NothingPending),
-        Slot::Pending(split, _) => {
-            area_parts::write_low(LowSide::Running(n), area);
-            b.payload.give(reply);
-            launch_answer(split, b.payload)
-        }
-        Slot::Ready(_, _) => unlaunched(NotLaunched::NothingPending),
-        Slot::Old(_, _) => unlaunched(NotLaunched::NothingPending),
-    }
+    let Slot::Pending(split, _) = b.slot else {
+        return unlaunched(NotLaunched::NothingPending);
+    };
+    area_parts::write_low(LowSide::Running(n), area);
+    b.payload.give(reply);
+    launch_answer(split, b.payload)
 }
 
 pub fn grimholdi_deliver(area: &mut [u8], res: u32, payload: &[u8]) -> Answer
@@ -397,7 +384,6 @@ pub fn grimholdi_deliver(area: &mut [u8], res: u32, payload: &[u8]) -> Answer
     match head.low {
         LowSide::Idle => delivered(Err(NotDelivered::NotInThisState)),
         LowSide::Running(n) => match area_parts::slot_at(area, head.ports, n) {
-            Slot::Empty => delivered(Err(NotDelivered::NotInThisState)),
             Slot::Pending(split, _) => {
                 if !kind.suits(split.pid) {
                     return delivered(Err(NotDelivered::NotInThisState));
@@ -405,8 +391,9 @@ pub fn grimholdi_deliver(area: &mut [u8], res: u32, payload: &[u8]) -> Answer
                 put_result(head.ports, n, split, kind, payload, area);
                 delivered(Ok(()))
             }
-            Slot::Ready(_, _) => delivered(Err(NotDelivered::NotInThisState)),
-            Slot::Old(_, _) => delivered(Err(NotDelivered::NotInThisState)),
+            Slot::Empty | Slot::Ready(_, _) | Slot::Old(_, _) => {
+                delivered(Err(NotDelivered::NotInThisState))
+            }
         },
         LowSide::Abandoned => {
             area_parts::write_low(LowSide::Idle, area);

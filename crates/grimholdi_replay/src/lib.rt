@@ -5,6 +5,7 @@ ghost use Rattle.std.specs.Prelude.{◌≡◌};
 ghost use Rattle.grimholdi_replay.specs.Entry.{refusal_number, plain_replayed, block_entry};
 ghost use Rattle.grimholdi_replay.specs.Replays.{EntryReplays};
 
+use hub::Refusal;
 use recording::BlockFault;
 
 // What became of a block. The header's grimholdi_replayed.
@@ -55,10 +56,10 @@ pub extern "C" fn grimholdi_replay_block(
     ensures answers { answers.new ≡ (block_entry area.old place block.now answers.old).answers }
 {
     let Some(hub) = area::read_area(area) else {
-        return plain_replayed(6);
+        return plain_replayed(Refusal::Outside.number());
     };
     let Some(done) = replay::replay_block(hub, place, block, answers) else {
-        return plain_replayed(7);
+        return plain_replayed(Refusal::NoSpace.number());
     };
     area::write_area(done.hub, area);
     Replayed {

@@ -3,13 +3,21 @@
 
 ghost use Rattle.std.specs.Prelude.{◌≡◌};
 ghost use Rattle.hub.specs.Call.Call.{Control, Poll, Start, Complete, Launch, Deliver, Event, Tick, BusReset};
+ghost use Rattle.hub.specs.declared.Refusal.TheVariants.{Outside};
+ghost use Rattle.hub.specs.Checks.{refusal_number};
+ghost use Rattle.why.specs.declared.Reason.TheVariants.{Number};
 ghost use Rattle.why.specs.Bytes.{bytes_of};
 ghost use Rattle.grimholdi_why.specs.Explained.{entry_reason, EntryReasons};
 
+use hub::Refusal;
 use why::{Reason, ReasonBytes};
 
 // Of an area that isn't the written form of a valid hub.
-const REFUSED: Reason = Reason::Number(6);
+fn refused() -> Reason
+    ensures { result ≡ Number (refusal_number Outside) }
+{
+    Reason::Number(Refusal::Outside.number())
+}
 
 #[tactic(auto, unfolding(crate::specs::Explained::entry_reason))]
 #[unsafe(no_mangle)]
@@ -22,7 +30,7 @@ pub extern "C" fn grimholdi_why_control(
     ensures { result ≡ bytes_of (entry_reason area.now (Control lane setup.now room)) }
 {
     why::bytes_of(area::read_area(area).map_or(
-        REFUSED,
+        refused(),
         |hub| why::explain_control(hub, lane, setup, room),
     ))
 }
@@ -32,7 +40,7 @@ pub extern "C" fn grimholdi_why_control(
 pub extern "C" fn grimholdi_why_poll(area: &[u8], lane: u32, room: usize) -> ReasonBytes
     ensures { result ≡ bytes_of (entry_reason area.now (Poll lane room)) }
 {
-    why::bytes_of(area::read_area(area).map_or(REFUSED, |hub| why::explain_poll(hub, lane, room)))
+    why::bytes_of(area::read_area(area).map_or(refused(), |hub| why::explain_poll(hub, lane, room)))
 }
 
 #[tactic(auto, unfolding(crate::specs::Explained::entry_reason))]
@@ -51,7 +59,7 @@ pub extern "C" fn grimholdi_why_start_split(
     ensures { result ≡ bytes_of (entry_reason area.now (Start lane pid transfer lowspeed toggle address endpoint payload.now)) }
 {
     why::bytes_of(area::read_area(area).map_or(
-        REFUSED,
+        refused(),
         |hub| why::explain_start_split(
             hub, lane, pid, transfer, lowspeed, toggle, address, endpoint, payload,
         ),
@@ -71,7 +79,7 @@ pub extern "C" fn grimholdi_why_complete_split(
     ensures { result ≡ bytes_of (entry_reason area.now (Complete lane address endpoint direction room)) }
 {
     why::bytes_of(area::read_area(area).map_or(
-        REFUSED,
+        refused(),
         |hub| why::explain_complete_split(hub, lane, address, endpoint, direction, room),
     ))
 }
@@ -81,7 +89,7 @@ pub extern "C" fn grimholdi_why_complete_split(
 pub extern "C" fn grimholdi_why_launch(area: &[u8], room: usize) -> ReasonBytes
     ensures { result ≡ bytes_of (entry_reason area.now (Launch room)) }
 {
-    why::bytes_of(area::read_area(area).map_or(REFUSED, |hub| why::explain_launch(hub, room)))
+    why::bytes_of(area::read_area(area).map_or(refused(), |hub| why::explain_launch(hub, room)))
 }
 
 #[tactic(auto, unfolding(crate::specs::Explained::entry_reason))]
@@ -90,7 +98,7 @@ pub extern "C" fn grimholdi_why_deliver(area: &[u8], res: u32, payload: &[u8]) -
     ensures { result ≡ bytes_of (entry_reason area.now (Deliver res payload.now)) }
 {
     why::bytes_of(area::read_area(area).map_or(
-        REFUSED,
+        refused(),
         |hub| why::explain_deliver(hub, res, payload),
     ))
 }
@@ -101,7 +109,7 @@ pub extern "C" fn grimholdi_why_line_event(area: &[u8], event: u32, port: u32) -
     ensures { result ≡ bytes_of (entry_reason area.now (Event event port)) }
 {
     why::bytes_of(area::read_area(area).map_or(
-        REFUSED,
+        refused(),
         |hub| why::explain_line_event(hub, event, port),
     ))
 }
@@ -111,7 +119,7 @@ pub extern "C" fn grimholdi_why_line_event(area: &[u8], event: u32, port: u32) -
 pub extern "C" fn grimholdi_why_tick(area: &[u8]) -> ReasonBytes
     ensures { result ≡ bytes_of (entry_reason area.now Tick) }
 {
-    why::bytes_of(area::read_area(area).map_or(REFUSED, |hub| why::explain_tick(hub)))
+    why::bytes_of(area::read_area(area).map_or(refused(), |hub| why::explain_tick(hub)))
 }
 
 #[tactic(auto, unfolding(crate::specs::Explained::entry_reason))]
@@ -119,7 +127,7 @@ pub extern "C" fn grimholdi_why_tick(area: &[u8]) -> ReasonBytes
 pub extern "C" fn grimholdi_why_bus_reset(area: &[u8]) -> ReasonBytes
     ensures { result ≡ bytes_of (entry_reason area.now BusReset) }
 {
-    why::bytes_of(area::read_area(area).map_or(REFUSED, |hub| why::explain_bus_reset(hub)))
+    why::bytes_of(area::read_area(area).map_or(refused(), |hub| why::explain_bus_reset(hub)))
 }
 
 // What holds of every explaining entry, and of every run of entries in which some calls are explained.

@@ -24,6 +24,13 @@ use Rattle.ports.specs.Bitmap.{bitmap_of}
 use Rattle.buffer.specs.declared.DeviceResult.{DeviceResult}
 use Rattle.translator.specs.declared.Translator.{Translator}
 use Rattle.translator.specs.declared.Launched.{Launched}
+use Rattle.translator.specs.declared.NotLaunched.{NotLaunched}
+use Rattle.translator.specs.declared.NotLaunched.TheVariants.{NothingPending, Occupied}
+use Rattle.translator.specs.declared.NotDelivered.{NotDelivered}
+use Rattle.translator.specs.declared.NotDelivered.TheVariants.{Outside, NotInThisState}
+use Rattle.buffer.specs.declared.StartSplit.{StartSplit}
+use Rattle.std.specs.Prelude.{Result, Ok, Err}
+use Rattle.std.specs.Result.{result_eq}
 use Rattle.translator.specs.declared.Delivered.{Delivered}
 use Rattle.translator.specs.Launch.{launch}
 use Rattle.translator.specs.Deliver.{deliver}
@@ -68,12 +75,25 @@ module _ (h : Hub) {o : Outcome} where
       e ∙ ap (gives h) (ap content p ∙ content_of (take k d) l ∙ ap (λ (x : ℕ). take x d) m ∙ take_min n d)
 
 -- whether the translator takes the call in its state
-pub launch_fits : (t : Translator) {x : Launched} {n : ℕ} → n ≡ launch_number x.answer → x ≡ launch t → not (eqb n 8) ≡ not (eqb (launch_number (launch t).answer) 8)
-launch_fits t e f = rw (e, f)
+pub launch_fits : (t : Translator) {x : Launched} {b : Bool} (f : StartSplit → StartSplit → Bool) (g : NotLaunched → NotLaunched → Bool)
+    → g NothingPending Occupied ≡ false → g Occupied Occupied ≡ true → b ≡ not (result_eq f g x.answer (Err Occupied)) → x ≡ launch t
+    → b ≡ not (eqb (launch_number (launch t).answer) 8)
+launch_fits t {x} f g other same e l = e ∙ (split x.answer ∙ rw l)
+  where
+    split : (a : Result StartSplit NotLaunched) → not (result_eq f g a (Err Occupied)) ≡ not (eqb (launch_number a) 8)
+    split (Ok s) = refl
+    split (Err NothingPending) = rw other
+    split (Err Occupied) = rw same
 
-pub deliver_fits : (t : Translator) (r : DeviceResult) (l : List ℕ) {x : Delivered} {k : DeviceResult} {n : ℕ} → n ≡ deliver_number x.answer → x ≡ deliver t k l → k ≡ r
-    → not (eqb n 8) ≡ not (eqb (deliver_number (deliver t r l).answer) 8)
-deliver_fits t r l e f g = rw (e, f, g)
+pub deliver_fits : (t : Translator) (r : DeviceResult) (l : List ℕ) {x : Delivered} {k : DeviceResult} {b : Bool} (f : Unit {0} → Unit {0} → Bool)
+    (g : NotDelivered → NotDelivered → Bool) → g Outside NotInThisState ≡ false → g NotInThisState NotInThisState ≡ true
+    → b ≡ not (result_eq f g x.answer (Err NotInThisState)) → x ≡ deliver t k l → k ≡ r → b ≡ not (eqb (deliver_number (deliver t r l).answer) 8)
+deliver_fits t r l {x} f g other same e d k = e ∙ (split x.answer ∙ rw (d, k))
+  where
+    split : (a : Result (Unit {0}) NotDelivered) → not (result_eq f g a (Err NotInThisState)) ≡ not (eqb (deliver_number a) 8)
+    split (Ok o) = refl
+    split (Err Outside) = rw other
+    split (Err NotInThisState) = rw same
 
 -- ---- a line event: its numbers and the hub's configuration are looked at before the port, and the port's own answer is the last check
 

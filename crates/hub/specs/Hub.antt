@@ -29,7 +29,7 @@ hub_of n b g c r =
       translator = new_translator b;
     }
 
--- answer 0 and the hub; bad numbers give no hub and answer 6
+-- the hub; bad numbers give no hub and what is answered as 6 (Checks.refusal_number)
 unfoldable pub new_hub : ℕ → ℕ → ℕ → ℕ → ℕ → Result Hub Refusal
 new_hub n b g c r = cond (new_fits n b g c r) (Ok (hub_of n b g c r)) (Err Outside)
 

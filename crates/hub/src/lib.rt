@@ -24,7 +24,7 @@ use payload::Payload;
 use port::{ClearableFeature, NotInThisState, Port, PortCount, PortNumber, SettableFeature};
 use ports::Sweep;
 use request::{Fault, Pipe, Request};
-use translator::{Completed, Launched, Translator};
+use translator::{Completed, Launched, NotDelivered, NotLaunched, Translator};
 
 // What a hub is made from, but for the number of buffers, which its translator has.
 #[derive(Clone, Copy)]
@@ -538,7 +538,7 @@ impl Hub {
         ensures { outcome_of result ≡ step self (Launch room) }
     {
         let o = self.translator.launch();
-        let fits = numbers::launch_answer(o.answer) != 8;
+        let fits = o.answer != Err(NotLaunched::Occupied);
         if let Err(refusal) = first_refusal(true, 64 <= room, self.configured, fits) {
             return refuse(self, refusal);
         }
@@ -571,10 +571,11 @@ impl Hub {
         let kind = numbers::result_of(res);
         let within = numbers::is_result(res) & kind.carries(payload.len());
         let o = self.translator.deliver(kind, payload);
-        let number = numbers::deliver_answer(o.answer);
-        if let Err(refusal) = first_refusal(within, true, self.configured, number != 8) {
+        let fits = o.answer != Err(NotDelivered::NotInThisState);
+        if let Err(refusal) = first_refusal(within, true, self.configured, fits) {
             return refuse(self, refusal);
         }
+        let number = numbers::deliver_answer(o.answer);
         answer(self.with_translator(o.next), number)
     }
 

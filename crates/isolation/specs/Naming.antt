@@ -1,9 +1,8 @@
 -- Which calls name a port (C-21). A reader must believe: a line event names the port that it is at, and a port request, well formed, from
 -- whatever lane, the one in its wIndex; a bad port number names no port, and no other call names any.
-use Rattle.std.specs.Prelude.{ℕ, Bool, false, cond, ◌&&◌, List, [], ◌∷◌, eqb, length}
+use Rattle.std.specs.Prelude.{ℕ, Bool, false, cond, ◌&&◌, List, [], ◌∷◌, eqb, length, Result, Ok, Err}
 use Rattle.port.specs.declared.PortNumber.{PortNumber}
 use Rattle.numbers.specs.Named.{port_named}
-use Rattle.std.specs.Prelude.{Result, Ok, Err}
 use Rattle.request.specs.declared.Fault.{Fault}
 use Rattle.request.specs.declared.Request.{Request}
 use Rattle.request.specs.declared.Request.TheVariants.{SetConfiguration, GetConfiguration, GetHubDescriptor, GetHubStatus, GetPortStatus, ClearHubFeature, ClearPortFeature, SetPortFeature, ClearTTBuffer, ResetTT}

@@ -278,15 +278,15 @@ impl Port {
         [low, high, self.changes.byte(), 0]
     }
 
-    // Whether a change bit is set.
+    // Whether a change bit is set. By |: no branch for each bit, since a poll asks every port.
     pub fn changed(self) -> bool
         ensures { result ≡ has_change self.changes }
     {
         self.changes.connection
-            || self.changes.enable
-            || self.changes.suspend
-            || self.changes.overcurrent
-            || self.changes.reset
+            | self.changes.enable
+            | self.changes.suspend
+            | self.changes.overcurrent
+            | self.changes.reset
     }
 }
 

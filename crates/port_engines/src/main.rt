@@ -36,22 +36,18 @@ fn weight(given: PortAnswer) -> u64 {
 fn of_line<E: Fn(Port, Input) -> PortAnswer>(line: usize, columns: Range<usize>, engine: &E) -> u64
     requires { E.IsAlwaysCallable engine.now }
 {
-    let mut sum: u64 = 0;
-    for column in columns {
+    columns.fold(0u64, |sum, column| {
         let given = engine(chart::port_at(line), chart::input_at(column));
-        sum = sum.wrapping_add(weight(given));
-    }
-    sum
+        sum.wrapping_add(weight(given))
+    })
 }
 
 fn of_round<E: Fn(Port, Input) -> PortAnswer>(columns: Range<usize>, engine: &E) -> u64
     requires { E.IsAlwaysCallable engine.now }
 {
-    let mut sum: u64 = 0;
-    for line in 0..48 {
-        sum = sum.wrapping_add(of_line(line, columns.start..columns.end, engine));
-    }
-    sum
+    (0..48usize).fold(0u64, |sum, line| {
+        sum.wrapping_add(of_line(line, columns.start..columns.end, engine))
+    })
 }
 
 // The engine is chosen at each step, so that all rounds are one loop, which costs the same around each engine.
@@ -67,11 +63,10 @@ fn of_letter(letter: u8, chart: &[u32; 1104]) -> u64 {
 }
 
 fn of_letters(letters: &[u8], chart: &[u32; 1104]) -> u64 {
-    let mut sum: u64 = 0;
-    for letter in letters {
-        sum = sum.wrapping_add(of_letter(*letter, chart));
-    }
-    sum
+    letters.iter().fold(
+        0u64,
+        |sum, letter| sum.wrapping_add(of_letter(*letter, chart)),
+    )
 }
 
 // Fills the letters from the input, as far as it goes; how many there are.

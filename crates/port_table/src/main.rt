@@ -30,26 +30,36 @@ fn say_line(out: &mut impl Write, before: Port, input: Input) -> io::Result<()> 
     writeln!(out)
 }
 
-// Line n, from 0: the input changes fastest, then the state, the level and the change bits.
-fn line(out: &mut impl Write, n: usize) -> io::Result<()> {
-    let set = n / 1056 == 1;
-    let before = Port {
-        changes: Changes {
-            connection: set,
-            enable: set,
-            suspend: set,
-            overcurrent: set,
-            reset: set,
-        },
-        ..chart::port_at(n / 22 % 48)
-    };
-    say_line(out, before, chart::input_at(n % 22))
+// The lines of one port, an input each.
+fn say_inputs(out: &mut impl Write, before: Port) -> io::Result<()> {
+    for column in 0..22 {
+        say_line(out, before, chart::input_at(column))?;
+    }
+    Ok(())
+}
+
+// The lines of all ports with all change bits set or none: the state changes fastest, then the level.
+fn say_ports(out: &mut impl Write, set: bool) -> io::Result<()> {
+    for place in 0..48 {
+        let before = Port {
+            changes: Changes {
+                connection: set,
+                enable: set,
+                suspend: set,
+                overcurrent: set,
+                reset: set,
+            },
+            ..chart::port_at(place)
+        };
+        say_inputs(out, before)?;
+    }
+    Ok(())
 }
 
 fn main(rt: HostRuntime) -> io::Result<()> {
     let mut out = io::writer(&rt);
-    for n in 0..2112 {
-        line(&mut out, n)?;
+    for set in [false, true] {
+        say_ports(&mut out, set)?;
     }
     Ok(())
 }

@@ -91,7 +91,7 @@ pub fn bitmap(ports: [Port; 7], count: PortCount) -> u8
 fn flag(port: Port, n: PortNumber, count: PortCount) -> u8
     ensures { (result ≡ bit (leb n.0 count.0 && has_change port.changes)) × (result ≤ 1) }
 {
-    bools::bit_of(n.0 <= count.0 as u32 && port.changed())
+    bools::bit_of((n.0 <= count.0 as u32) & port.changed())
 }
 
 // What holds of the ports' rules; the function does nothing.

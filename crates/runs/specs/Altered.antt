@@ -1,6 +1,6 @@
 -- Internal, pinned by `OwnServed`, at its end: the hub's rules over any rules of the translator and of the ports. With the hub's own they are
 -- the rules, so that a hub with one of them replaced differs from the rules there and nowhere else.
-use Rattle.std.specs.Prelude.{◌≡◌, Bool, false, cond, ◌||◌, List, ℕ, eqb}
+use Rattle.std.specs.Prelude.{◌≡◌, Bool, false, cond, ◌||◌, List, ℕ, eqb, Result, Ok, Err}
 use Rattle.port.specs.declared.PortNumber.{PortNumber}
 use Rattle.port.specs.declared.LineEvent.{LineEvent}
 use Rattle.port.specs.declared.SettableFeature.{SettableFeature}
@@ -23,7 +23,6 @@ use Rattle.translator.specs.Clear.{clear_buffer}
 use Rattle.translator.specs.ResetLane.{reset_lane}
 use Rattle.numbers.specs.Named.{lane_from, event_from}
 use Rattle.numbers.specs.Split.{split_from, key_from}
-use Rattle.std.specs.Prelude.{Result, Ok, Err}
 use Rattle.request.specs.declared.Fault.{Fault}
 use Rattle.request.specs.declared.Request.{Request}
 use Rattle.request.specs.declared.Request.TheVariants.{SetConfiguration, GetConfiguration, GetHubDescriptor, GetHubStatus, GetPortStatus, ClearHubFeature, ClearPortFeature, SetPortFeature, ClearTTBuffer, ResetTT}

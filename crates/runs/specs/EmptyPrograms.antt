@@ -1,7 +1,6 @@
 -- The four empty programs of document 01, two more, and that demand 2 shuts each out. A reader must believe: each is the program that its
 -- comment names.
-use Prim.Native.Nat.{ℕ}
-use Rattle.std.specs.Prelude.{◌≡◌, map, None, Option, Some}
+use Rattle.std.specs.Prelude.{ℕ, ◌≡◌, map, None, Option, Some}
 use Rattle.buffer.specs.declared.BufferNumber.{BufferNumber}
 use Rattle.translator.specs.Order.{earliest}
 use Rattle.hub.specs.declared.Hub.{Hub}

@@ -1,12 +1,11 @@
 -- C_PORT_ENABLE over runs (C-12), from calls and answers alone: the host sees it exactly where a port error stands reported.
 -- A reader must believe: a port error answered 0 reports at its port; ClearPortFeature C_PORT_ENABLE of that port, answered 0, and a bus
 -- reset take the report back; and GetPortStatus shows it as bit 17 of its four bytes, which is bit 1 of the third.
-use Rattle.std.specs.Prelude.{ℕ, ◌≡◌, List, [], ◌∷◌, Bool, false, cond, not, ◌&&◌, ◌||◌, eqb, get_or}
+use Rattle.std.specs.Prelude.{ℕ, ◌≡◌, List, [], ◌∷◌, Bool, false, cond, not, ◌&&◌, ◌||◌, eqb, get_or, Option, Some, None}
 use Rattle.port.specs.declared.ChangeBit.TheVariants.{Enable}
 use Rattle.port.specs.declared.LineEvent.TheVariants.{PortError}
 use Rattle.port.specs.Words.{bits_of}
 use Rattle.numbers.specs.Written.{event_number}
-use Rattle.std.specs.Prelude.{Option, Some, None}
 use Rattle.request.specs.declared.Kind.{Kind}
 use Rattle.request.specs.declared.Kind.TheVariants as kind
 use Rattle.request.specs.Setup.{setup_of}

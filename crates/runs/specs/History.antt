@@ -1,7 +1,7 @@
 -- What the calls and answers of a run say, and nothing else: which keys are open, which start-splits were stored, what a launch and a
 -- delivery are for. A history has the latest event first; a start-split is named by the number of events before it.
 -- A reader must believe: these are the words of document 01, "How a promise is judged".
-use Rattle.std.specs.Prelude.{ℕ, List, [], ◌∷◌, ◌++◌, Bool, false, cond, not, ◌&&◌, ◌||◌, length, eqb, Option}
+use Rattle.std.specs.Prelude.{ℕ, List, [], ◌∷◌, ◌++◌, Bool, false, cond, not, ◌&&◌, ◌||◌, length, eqb, Option, Some, None}
 use Rattle.buffer.specs.declared.Lane.{Lane}
 use Rattle.buffer.specs.declared.Direction.{Direction}
 use Rattle.buffer.specs.declared.Key.{Key}
@@ -11,7 +11,6 @@ use Rattle.buffer.specs.Key.{key_with, same_lane, direction_of}
 use Rattle.buffer.specs.Lengths.{is_data}
 use Rattle.translator.specs.Answers.{result_pid}
 use Rattle.numbers.specs.Named.{lane_from, pid_from, result_from, direction_from}
-use Rattle.std.specs.Prelude.{Some, None}
 use Rattle.request.specs.declared.Kind.{Kind}
 use Rattle.request.specs.declared.Kind.TheVariants as kind
 use Rattle.request.specs.Setup.{setup_of}

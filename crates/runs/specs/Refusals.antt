@@ -1,6 +1,6 @@
 -- Which calls are refused, with which number. A reader must believe: for each refusal, the sentence of document 01 that says when it
 -- applies to a call; `rank`, the order where several apply; and that a refused call changes nothing and gives no bytes.
-use Rattle.std.specs.Prelude.{ℕ, ◌<◌, ◌≡◌, ◌↔◌, ◌⊎◌, Bool, true, false, [], length}
+use Rattle.std.specs.Prelude.{ℕ, ◌<◌, ◌≡◌, ◌↔◌, ◌⊎◌, Bool, true, false, [], length, Result, Err}
 use Rattle.port.specs.declared.PortNumber.{PortNumber}
 use Rattle.port.specs.declared.LineEvent.{LineEvent}
 use Rattle.port.specs.Status.{has_change}
@@ -28,7 +28,6 @@ use Rattle.numbers.specs.Written.{type_number, direction_number, result_written,
 use Rattle.numbers.specs.Named.{result_from, event_from, lane_from}
 use Rattle.numbers.specs.Split.{split_from, key_from}
 use Rattle.request.specs.declared.Fault.{Fault}
-use Rattle.std.specs.Prelude.{Result, Err}
 use Rattle.request.specs.declared.Request.{Request}
 use Rattle.request.specs.Request.{request_of}
 use Rattle.hub.specs.declared.Hub.{Hub}

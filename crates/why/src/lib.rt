@@ -13,7 +13,7 @@ ghost use Rattle.why.specs.Cases.{WhyCases};
 ghost use Rattle.why.specs.Mistakes.{WhyMistakesShutOut};
 
 use buffer::BufferNumber;
-use hub::Hub;
+use hub::{Hub, Refusal};
 use port::{Changes, Port};
 use request::{Fault, Kind, Setup};
 use translator::{Choice, Outside};
@@ -141,7 +141,7 @@ pub fn explain_control(hub: Hub, lane: u32, setup: &[u8], room: usize) -> Reason
     ensures { result ≡ why_of hub (Control lane setup.now room) }
 {
     let Ok(bytes) = <[u8; 8]>::try_from(setup) else {
-        return Reason::Number(6);
+        return Reason::Number(Refusal::Outside.number());
     };
     let o = hub.control(lane, setup, room);
     number_first(o.reply.number, request_reason(hub, bytes))
@@ -292,13 +292,7 @@ fn changes_bytes(c: PortChanges) -> ReasonBytes
 fn place_of(fault: RequestFault) -> u8
     ensures { result ≡ place fault }
 {
-    match fault {
-        RequestFault::TypeOrCode => 0,
-        RequestFault::Unconfigured => 1,
-        RequestFault::Value => 2,
-        RequestFault::Index => 3,
-        RequestFault::Length => 4,
-    }
+    fault as u8
 }
 
 pub fn bytes_of(reason: Reason) -> ReasonBytes

@@ -1,6 +1,6 @@
 use Rattle.std.proofs.Common.{sym, ◌∙◌}
 use Rattle.grimholdi.proofs.Taken.{turned_away}
-use Rattle.grimholdi.proofs.Delivering.{deliver_refused, idle, on_empty, on_ready, on_old, unsuited, suited, abandoned}
+use Rattle.grimholdi.proofs.Delivering.{deliver_refused, idle, not_pending, unsuited, suited, abandoned}
 use Rattle.grimholdi.proofs.grimholdi_deliver.Goals as goal
 
 pub returns-then-not-is_area : goal.returns-then-not-is_area
@@ -20,7 +20,7 @@ returns-in-Idle c =
 
 pub returns-in-Empty : goal.returns-in-Empty
 returns-in-Empty c =
-    let all = on_empty _ (sym c.is_area.ensures ∙ c.if-not-is_area.false) _ c.head_at-head.ensures _ _ _ c.result_of-kind.ensures (rw (c.is_result.ensures, c.carries.ensures)) c.in_default.ensures c.in-Running.is _ c.slot_at.ensures c.in-Empty.is _ c.delivered-in-Empty.ensures in
+    let all = not_pending _ (sym c.is_area.ensures ∙ c.if-not-is_area.false) _ c.head_at-head.ensures _ _ _ c.result_of-kind.ensures (rw (c.is_result.ensures, c.carries.ensures)) c.in_default.ensures c.in-Running.is _ c.slot_at.ensures c.in-Empty.is _ c.delivered-in-Empty.ensures in
     record { value = all.0; area = all.1 }
 
 pub returns-then-not-suits : goal.returns-then-not-suits
@@ -31,16 +31,6 @@ returns-then-not-suits c =
 pub returns-else-not-suits : goal.returns-else-not-suits
 returns-else-not-suits c =
     let all = suited _ (sym c.is_area.ensures ∙ c.if-not-is_area.false) _ c.head_at-head.ensures _ _ _ c.result_of-kind.ensures (rw (c.is_result.ensures, c.carries.ensures)) c.in_default.ensures c.in-Running.is _ c.slot_at.ensures c.in-Pending.is c.suits.ensures c.if-not-suits.false _ _ c.delivered-in-Pending.ensures c.put_result.ensures in
-    record { value = all.0; area = all.1 }
-
-pub returns-in-Ready : goal.returns-in-Ready
-returns-in-Ready c =
-    let all = on_ready _ (sym c.is_area.ensures ∙ c.if-not-is_area.false) _ c.head_at-head.ensures _ _ _ c.result_of-kind.ensures (rw (c.is_result.ensures, c.carries.ensures)) c.in_default.ensures c.in-Running.is _ c.slot_at.ensures c.in-Ready.is _ c.delivered-in-Ready.ensures in
-    record { value = all.0; area = all.1 }
-
-pub returns-in-Old : goal.returns-in-Old
-returns-in-Old c =
-    let all = on_old _ (sym c.is_area.ensures ∙ c.if-not-is_area.false) _ c.head_at-head.ensures _ _ _ c.result_of-kind.ensures (rw (c.is_result.ensures, c.carries.ensures)) c.in_default.ensures c.in-Running.is _ c.slot_at.ensures c.in-Old.is _ c.delivered-in-Old.ensures in
     record { value = all.0; area = all.1 }
 
 pub returns-in-Abandoned : goal.returns-in-Abandoned

@@ -1,4 +1,5 @@
 use Rattle.std.proofs.Common.{◌≡◌, ◌∙◌, ap, length, rules}
+use Rattle.why.specs.declared.Reason.TheVariants.{Number}
 use Rattle.why.specs.Why.{request_reason}
 use Rattle.why.proofs.Explaining.{control_way, control_short}
 use Rattle.why.proofs.explain_control.Goals as goal
@@ -6,7 +7,7 @@ use Rattle.why.proofs.explain_control.Goals as goal
 pub returns-in_default : goal.returns-in_default
 returns-in_default c =
     let long : ¬ (length c.args.setup.now ≡ 8) = search rules in
-    control_short _ _ _ _ long
+    ap Number c.number.ensures ∙ control_short _ _ _ _ long
 
 pub returns : goal.returns
 returns c =

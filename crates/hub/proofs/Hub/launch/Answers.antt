@@ -8,10 +8,10 @@ use Rattle.hub.proofs.Hub.launch.Goals as goal
 
 pub returns-in-Err : goal.returns-in-Err
 unfolding within has_space not_silent fitting
-returns-in-Err c = refused_by _ (Launch _) _ c.refuse.ensures c.in-Err.ensures refl refl refl (launch_fits _ c.launch_answer-fits.ensures c.launch-o.ensures)
+returns-in-Err c = refused_by _ (Launch _) _ c.refuse.ensures c.in-Err.ensures refl refl refl (launch_fits _ _ _ refl refl c.ne-fits.ensures c.launch-o.ensures)
 
 pub returns : goal.returns
 unfolding within has_space not_silent fitting served
 returns c =
-    served_by_lem _ (Launch _) c.in_default.ensures refl refl refl (launch_fits _ c.launch_answer-fits.ensures c.launch-o.ensures)
+    served_by_lem _ (Launch _) c.in_default.ensures refl refl refl (launch_fits _ _ _ refl refl c.ne-fits.ensures c.launch-o.ensures)
     (c.launched.ensures ∙ rw c.launch-o.ensures)
