@@ -159,7 +159,7 @@ unfolding blank
 blank_end l i all h e = sym (e ∙ ap (λ (r : List ℕ). eqb all 0 && blank r) (drop_of_length-le l h) ∙ and-true (eqb all 0))
 
 -- the slice from a place on
-pub rest_is : {A : Type 0} (l : List A) (m : ℕ) → take (length l - m) (drop m l) ≡ drop m l
+rest_is : {A : Type 0} (l : List A) (m : ℕ) → take (length l - m) (drop m l) ≡ drop m l
 rest_is l m = take_all (length l - m) (drop m l) (simp length-drop (omega arith))
 
 -- the bytes looked at are those from the start on, none where there are none

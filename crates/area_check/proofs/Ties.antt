@@ -2,12 +2,10 @@
 use mathlib.Core.Path.{◌≡◌, refl, sym, ap, ◌∙◌}
 use mathlib.Core.List.{List, [], ◌∷◌, ◌++◌, map}
 use mathlib.Core.Bool.{Bool, true, false, cond, false≢true, not, ◌&&◌, ◌||◌, and-false, or-false, and-eq-true_iff}
-use Prim.Native.Nat.{ℕ, zero, suc, ◌+◌, ◌≤◌, ◌<◌}
+use Prim.Native.Nat.{ℕ, zero, suc, ◌≤◌, ◌<◌}
 use native.Mathlib.Nat.{not-suc-le-zero}
-use native.Mathlib.Numerals.{add-one}
 use native.Mathlib.Omega.{arith}
-use lib.ListN.{length, get_or, take, drop, drop_of_length-le, get_or-map}
-use lib.Seq.{drop-cons}
+use lib.ListN.{length, get_or, take, drop, get_or-map}
 use lib.Dec.{eqb, leb, ltb}
 use borrow.Author.Tests.{eq-eqb, ne_eqb, ltb-true, leb-true}
 use Rattle.std.proofs.lemmas.List.{map-append, get_or_past}
@@ -23,6 +21,7 @@ use Rattle.buffer.specs.Same.{same_key}
 use Rattle.buffer.specs.Key.{key_of, same_lane}
 use Rattle.buffer.specs.Buffer.{vacant, is_pending, active_in}
 use Rattle.numbers.specs.Named.{result_from}
+use Rattle.area_check.specs.declared.TheConstants.{PAIRS}
 use Rattle.area_check.specs.Rows.{parts}
 use Rattle.translator.specs.Slots.{slots_in}
 use Rattle.area_check.specs.Read.{lane_in, filled_by, held_split, slot_named, slot_of, buffer_of, no_buffers, buffers_of, clash, clash_any, clashing, runs}
@@ -120,22 +119,20 @@ first_crowds (l ∷ rows) many = go (lane_in (get_or l 3 0)) refl
     go Zero e = rw (none Zero One e refl) (sym (or-false _))
     go One e = rw (none One Zero e refl)
 
--- ---- no two clash, as the loop goes on
+-- ---- no two of the buffers clash
 
-pub any_is : (x : Slot) (rows : List (List ℕ)) → list_any (λ y. clash x (slot_of y)) rows ≡ clash_any x (map slot_of rows)
-any_is x [] = refl
-any_is x (y ∷ rows) = ap (λ (b : Bool). clash x (slot_of y) || b) (any_is x rows)
+abbrev pub pair_clashes : List (List ℕ) → ℕ × ℕ → Bool
+pair_clashes rows p = clash (get_or (map slot_of rows) p.0 Empty) (get_or (map slot_of rows) p.1 Empty)
 
-pub clashing_step : (rows : List (List ℕ)) (i : ℕ) → i < length rows
-    → clashing (map slot_of (drop i rows)) ≡ list_any (λ y. clash (slot_of (get_or rows i [])) (slot_of y)) (drop (i + 1) rows) || clashing (map slot_of (drop (i + 1) rows))
+-- the pairs are all that up to four buffers have
+pub all_pairs : (rows : List (List ℕ)) → length rows ≤ 4 → list_any (pair_clashes rows) PAIRS ≡ clashing (map slot_of rows)
 unfolding clashing
-clashing_step rows i h =
-    ap (λ (r : List (List ℕ)). clashing (map slot_of r)) (drop-cons rows i [] h ∙ ap (λ (n : ℕ). get_or rows i [] ∷ drop n rows) (sym (add-one i)))
-    ∙ ap (λ (b : Bool). b || clashing (map slot_of (drop (i + 1) rows))) (sym (any_is (slot_of (get_or rows i [])) (drop (i + 1) rows)))
-
-pub clashing_end : (rows : List (List ℕ)) (i : ℕ) → length rows ≤ i → clashing (map slot_of (drop i rows)) ≡ false
-unfolding clashing
-clashing_end rows i h = ap (λ (r : List (List ℕ)). clashing (map slot_of r)) (drop_of_length-le rows h)
+all_pairs [] h = refl
+all_pairs (x ∷ []) h = grind (arith, clash_empty)
+all_pairs (x ∷ y ∷ []) h = grind (arith, clash_empty)
+all_pairs (x ∷ y ∷ z ∷ []) h = grind (arith, clash_empty)
+all_pairs (x ∷ y ∷ z ∷ w ∷ []) h = grind (arith, clash_empty)
+all_pairs (x ∷ y ∷ z ∷ w ∷ v ∷ rows) h = absurd (omega arith)
 
 -- ---- the running one
 

@@ -2,8 +2,9 @@
 #![tactic(auto)]
 
 ghost use Rattle.std.specs.Prelude.{◌≡◌, ◌&&◌, ◌||◌, not, cond, ◌+◌, ◌*◌, ◌^◌, ◌<◌, ◌≤◌, eqb, leb, ltb, length, get_or, drop, map};
-ghost use Rattle.std.specs.List.{list_all, list_any};
+ghost use Rattle.std.specs.List.{list_all};
 ghost use Rattle.buffer.specs.declared.Lane.TheVariants.{Zero, One};
+ghost use Rattle.buffer.specs.declared.Slot.TheVariants.{Empty};
 ghost use Rattle.buffer.specs.Same.{same_key};
 ghost use Rattle.buffer.specs.Key.{direction_of, key_of, same_lane};
 ghost use Rattle.buffer.specs.Lengths.{type_fits, start_length, result_length};
@@ -187,22 +188,24 @@ fn clash(x: &[u8; 72], y: &[u8; 72]) -> bool
     both_held(x[0], y[0]) && (same_key(y, x) || same_place(x[0], y[0], y[6], x[6]))
 }
 
-fn clashes(x: &[u8; 72], others: &[[u8; 72]]) -> bool
-    ensures { result ≡ list_any (λ y. clash (slot_of x.now) (slot_of y)) others.now }
+// The pairs of up to four buffers.
+const PAIRS: [(usize, usize); 6] = [(0, 1), (0, 2), (0, 3), (1, 2), (1, 3), (2, 3)];
+
+// Whether two of the buffers clash. None does with one that is not there.
+fn pair_clashes(rows: &[[u8; 72]], i: usize, j: usize) -> bool
+    ensures { result ≡ clash (get_or (map slot_of rows.now) i Empty) (get_or (map slot_of rows.now) j Empty) }
 {
-    others.iter().any(|y| clash(x, y))
+    match (rows.get(i), rows.get(j)) {
+        (Some(x), Some(y)) => clash(x, y),
+        _ => false,
+    }
 }
 
-#[tactic(auto, using(crate::proofs::Ties::clashing_end))]
 fn clashing(rows: &[[u8; 72]]) -> bool
+    requires { length rows.now ≤ 4 }
     ensures { result ≡ clashing (map slot_of rows.now) }
 {
-    for (i, x) in rows.iter().enumerate() {
-        if clashes(x, &rows[i + 1..]) {
-            return true;
-        }
-    }
-    false
+    PAIRS.iter().any(|&(i, j)| pair_clashes(rows, i, j))
 }
 
 fn is_filled(s: u8) -> bool
@@ -250,7 +253,7 @@ fn runs(rows: &[[u8; 72]], low: u8, running: u8) -> bool
 
 // Each buffer for itself, then all among each other.
 fn buffers_agree(rows: &[[u8; 72]], low: u8, running: u8) -> bool
-    requires { 0 < length rows.now }
+    requires { (0 < length rows.now) × (length rows.now ≤ 4) }
     ensures { result ≡ list_all buffer_fits rows.now && (not (clashing (map slot_of rows.now)) && (not (list_all (filled_by Zero) rows.now || list_all (filled_by One) rows.now) && runs (map slot_of rows.now) low running)) }
 {
     buffers_fit(rows) && !clashing(rows) && !crowded(rows) && runs(rows, low, running)
