@@ -29,8 +29,7 @@ ghost use Rattle.chart.specs.Mistakes.{ChartMistakesShutOut};
 mod table;
 
 use port::{
-    ChangeBit, Changes, ClearableFeature, Input, LineEvent, NotInThisState, Port, PortState,
-    SettableFeature, Speed,
+    ChangeBit, Changes, ClearableFeature, Input, LineEvent, Port, PortState, SettableFeature, Speed,
 };
 use table::CHART;
 
@@ -70,13 +69,13 @@ pub fn by_rules(port: Port, input: Input) -> PortAnswer
     if is_port_request(input) && port.state == PortState::NotConfigured {
         return PortAnswer { port, number: 2 };
     }
-    match port.step(input) {
-        Ok(next) => PortAnswer {
+    port.step(input).map_or(
+        PortAnswer { port, number: 8 },
+        |next| PortAnswer {
             port: next,
             number: 0,
         },
-        Err(NotInThisState) => PortAnswer { port, number: 8 },
-    }
+    )
 }
 
 fn is_port_request(input: Input) -> bool

@@ -298,10 +298,14 @@ impl Port {
         if self.state != PortState::Disconnected {
             return Err(NotInThisState);
         }
-        let mut next = self;
-        next.state = PortState::Disabled(speed);
-        next.changes.connection = true;
-        Ok(next)
+        Ok(Port {
+            state: PortState::Disabled(speed),
+            changes: Changes {
+                connection: true,
+                ..self.changes
+            },
+            ..self
+        })
     }
 
     fn detach(self) -> Result<Port, NotInThisState>
@@ -309,10 +313,14 @@ impl Port {
     {
         match self.state {
             PortState::Disabled(_) | PortState::Enabled(_) | PortState::Suspended(_) => {
-                let mut next = self;
-                next.state = PortState::Disconnected;
-                next.changes.connection = true;
-                Ok(next)
+                Ok(Port {
+                    state: PortState::Disconnected,
+                    changes: Changes {
+                        connection: true,
+                        ..self.changes
+                    },
+                    ..self
+                })
             }
             _ => Err(NotInThisState),
         }
@@ -347,12 +355,14 @@ impl Port {
         ensures { answered self result ≡ ruled port_error self }
     {
         match self.state {
-            PortState::Enabled(speed) => {
-                let mut next = self;
-                next.state = PortState::Disabled(speed);
-                next.changes.enable = true;
-                Ok(next)
-            }
+            PortState::Enabled(speed) => Ok(Port {
+                state: PortState::Disabled(speed),
+                changes: Changes {
+                    enable: true,
+                    ..self.changes
+                },
+                ..self
+            }),
             _ => Err(NotInThisState),
         }
     }
@@ -466,17 +476,32 @@ impl Port {
         }
     }
 
-    fn clear_change(mut self, bit: ChangeBit) -> Port
+    fn clear_change(self, bit: ChangeBit) -> Port
         ensures { result ≡ change_cleared self bit }
     {
-        match bit {
-            ChangeBit::Connection => self.changes.connection = false,
-            ChangeBit::Enable => self.changes.enable = false,
-            ChangeBit::Suspend => self.changes.suspend = false,
-            ChangeBit::OverCurrent => self.changes.overcurrent = false,
-            ChangeBit::Reset => self.changes.reset = false,
-        }
-        self
+        let changes = match bit {
+            ChangeBit::Connection => Changes {
+                connection: false,
+                ..self.changes
+            },
+            ChangeBit::Enable => Changes {
+                enable: false,
+                ..self.changes
+            },
+            ChangeBit::Suspend => Changes {
+                suspend: false,
+                ..self.changes
+            },
+            ChangeBit::OverCurrent => Changes {
+                overcurrent: false,
+                ..self.changes
+            },
+            ChangeBit::Reset => Changes {
+                reset: false,
+                ..self.changes
+            },
+        };
+        Port { changes, ..self }
     }
 }
 

@@ -208,6 +208,12 @@ module _ {h₀ : Hub} {c₀ : Counts} {l o₀ : List ℕ} (f : RunFits l (length
             ap (λ (cs : List Call). tallied ran.hub cs (tally_in ran.counts)) (sym none_left)
             ∙ g.tally
             ∙ ap (tallied h₀ (listed (calls_of l))) z;
+        most =
+            record {
+              stored = omega (arith, ap (λ (t : Tally). t.stored) z, g.most.stored, g.inside);
+              answered = omega (arith, ap (λ (t : Tally). t.answered) z, g.most.answered, g.inside);
+              emptied = omega (arith, ap (λ (t : Tally). t.emptied) z, g.most.emptied, g.inside);
+            };
         written = sym first ∙ ap length all;
         short = omega (arith, g.few, g.inside);
         out = sym (take-append-drop ran.written o) ∙ ap₂ ◌++◌ all (g.behind ∙ ap (λ (n : ℕ). drop n o₀) (sym first ∙ ap length all));

@@ -60,6 +60,7 @@ pub record RunFits (l : List ℕ) (room : ℕ) : Type 0 where
 pub record RanAll (h₀ : Hub) (r : Ran) (l o o' : List ℕ) : Type 0 where
   pub hub : r.hub ≡ after_from rules h₀ (listed (calls_of l))
   pub tally : tally_in r.counts ≡ tallied h₀ (listed (calls_of l)) no_tally
+  pub most : AtMost (record { stored = 0; answered = 0; emptied = 0 }) r.counts (4 * length l)
   pub written : r.written ≡ length (answers_in (run_from rules h₀ (listed (calls_of l))))
   pub short : r.written ≤ 74 * length l
   pub out : o' ≡ answers_in (run_from rules h₀ (listed (calls_of l))) ++ drop (length (answers_in (run_from rules h₀ (listed (calls_of l))))) o
